@@ -1,0 +1,15 @@
+pub mod DayByDay
+pub mod Steps
+pub mod Order
+pub mod Rising
+pub mod Splice
+pub mod Spans
+pub mod Held
+pub mod Year
+pub mod Months
+pub mod Divides
+pub mod Starts
+pub mod Julian
+pub mod Gregorian
+pub mod Virtual
+pub mod Numbers

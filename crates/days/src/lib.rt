@@ -1,0 +1,1 @@
+// Specs alone: the calendars day by day, and their laws. No function.
