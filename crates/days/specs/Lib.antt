@@ -13,3 +13,9 @@ pub mod Julian
 pub mod Gregorian
 pub mod Virtual
 pub mod Numbers
+pub mod Calendars
+pub mod Reformations
+pub mod Table
+pub mod Runs
+pub mod Weekdays
+pub mod KnownDays

@@ -35,7 +35,7 @@ past-zero {leapAt} k zero o p h = omega (arith, year-most (leapAt zero))
 past-zero k (suc y) o p h = omega arith
 
 -- what goes up and down by one holds everywhere
-everywhere : (P : ℕ → Type 0) → ((y : ℕ) → P y → P (suc y)) → ((y : ℕ) → P (suc y) → P y) → (k : ℕ) → P k → (y : ℕ) → P y
+pub everywhere : (P : ℕ → Type 0) → ((y : ℕ) → P y → P (suc y)) → ((y : ℕ) → P (suc y) → P y) → (k : ℕ) → P k → (y : ℕ) → P y
 everywhere P up down zero p zero = p
 everywhere P up down zero p (suc y) = up y (everywhere P up down zero p y)
 everywhere P up down (suc k) p y = everywhere P up down k (down k p) y

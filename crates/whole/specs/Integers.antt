@@ -8,6 +8,7 @@ use native.Mathlib.Omega.{arith}
 use lib.Dec.{T, leb→le, le→leb, ltb→lt, lt→ltb}
 use lib.IntN.{ℤ, pos, negsuc, sucℤ, _+ℤ_, _-ℤ_, +ℤ-sucℤ, +ℤ-idr, +ℤ-comm, -ℤ-+ℤ-cancel, sucℤ-+ℤ, -ℤ-one, suc-pred, +ℤ-assoc, negℤ}
 use lib.Signed.{ltZ, _<ℤ_, _≤ℤ_, ltZ-yes, ltZ-no, ≤ℤ-refl, <ℤ-≤ℤ-trans, <ℤ-irrefl, clashℤ}
+use Rattle.whole.specs.Tests as N
 use Rattle.whole.specs.Tests.{true-or-false}
 use Rattle.whole.specs.Biased.{unbias, unbias-lt}
 
@@ -80,6 +81,9 @@ unbias-le bias a b h = ⊎-elim (λ g. absurd (never (unbias-down bias g))) (λ 
   where
     never : b < a → ⊥
     never g = omega arith
+
+pub unbias-le-down : (bias a b : ℕ) → unbias bias a ≤ℤ unbias bias b → a ≤ b
+unbias-le-down bias a b h = ⊎-elim (λ g. clashℤ (unbias-up bias g) h) (λ g. g) (N.lt-or-ge b a)
 
 -- no whole number lies between a - 1 and a
 pub back-one : (a : ℤ) → sucℤ (a -ℤ pos 1) ≡ a

@@ -1,0 +1,146 @@
+-- The known days that the scope document marks as to be proved, all under one statement about the definitions.
+-- Assumes nothing.
+use mathlib.Core.Path.{_≡_, refl, sym, _∙_, ap, subst}
+use Prim.Native.Nat.{ℕ, _+_, _-_, _<_, _≤_, _^_}
+use native.Mathlib.Omega.{arith}
+use lib.Dec.{T, leb, ltb}
+use lib.IntN.{ℤ, pos, negsuc}
+use mathlib.Core.Bool.{Bool, _&&_}
+use mir.Facts.{and-yes, leb-yes, ltb-yes}
+use Rattle.days.specs.DayByDay.{Label, label, monthLength, Calendar, Julian, Gregorian, Reforming, labels, Borne, OfYear, OfMonth, Place, Ordinal, DayOrdinal, YearLength, Skipped, weekday, UnixTime}
+use Rattle.days.specs.Held.{day, year, HeldYear}
+use Rattle.days.specs.Julian as J
+use Rattle.days.specs.Gregorian as G
+use Rattle.days.specs.Numbers.{There, number}
+use Rattle.days.specs.Table.{accepts}
+use Rattle.days.specs.Runs.{Runs, julian-runs, gregorian-runs, reforming-runs, on-old, on-new, on-none, year-stretch, month-stretch, yearFirst, monthFirst}
+use Rattle.days.specs.Weekdays.{weekday-is}
+
+-- ---- The statement
+
+-- day n of the calendar c is of the year y and has the ordinal o
+abbrev pub InYear : Calendar → ℤ → ℤ → ℕ → Type 0
+InYear c n y o = (labels c n .year ≡ y) × Ordinal (labels c) n o
+
+-- day n of the calendar c is year y, month m, day d, and has the ordinal o
+abbrev pub Dated : Calendar → ℤ → ℤ → ℕ → ℕ → ℕ → Type 0
+Dated c n y m d o = (labels c n ≡ label y m d) × Ordinal (labels c) n o
+
+-- no day of the calendar c is year y, month m, day d, and the date is not skipped
+abbrev pub Missing : Calendar → ℤ → ℕ → ℕ → Type 0
+Missing c y m d = (¬ Borne (labels c) (label y m d)) × (¬ Skipped c (label y m d))
+
+pub record KnownDays : Type 0 where
+  -- 0: Julian -4712 ordinal 1; Gregorian -4713 ordinal 328
+  pub zero-julian : InYear Julian (pos 0) (negsuc 4711) 1
+  pub zero-gregorian : InYear Gregorian (pos 0) (negsuc 4712) 328
+  -- -2147483648: Julian -5884202-03-16 (75); Gregorian -5884323-05-15 (135)
+  pub least-julian : Dated Julian (negsuc 2_147_483_647) (negsuc 5_884_201) 3 16 75
+  pub least-gregorian : Dated Gregorian (negsuc 2_147_483_647) (negsuc 5_884_322) 5 15 135
+  -- 2147483647: Julian 5874777-10-17 (290); Gregorian 5874898-06-03 (154)
+  pub greatest-julian : Dated Julian (pos 2_147_483_647) (pos 5_874_777) 10 17 290
+  pub greatest-gregorian : Dated Gregorian (pos 2_147_483_647) (pos 5_874_898) 6 3 154
+  -- r = 2299161: 1582-10-04 ordinal 277, 1582-10-15 ordinal 278, length 355
+  pub last-julian-1582 : Dated (Reforming (pos 2_299_161)) (pos 2_299_160) (pos 1582) 10 4 277
+  pub first-gregorian-1582 : Dated (Reforming (pos 2_299_161)) (pos 2_299_161) (pos 1582) 10 15 278
+  pub length-1582 : YearLength (labels (Reforming (pos 2_299_161))) (pos 1582) 355
+  -- r = 1830692: 300-02-28, then 300-03-01 ordinal 60; 300-02-29 refused
+  pub last-julian-300 : labels (Reforming (pos 1_830_692)) (pos 1_830_691) ≡ label (pos 300) 2 28
+  pub first-gregorian-300 : Dated (Reforming (pos 1_830_692)) (pos 1_830_692) (pos 300) 3 1 60
+  pub missing-300 : Missing (Reforming (pos 1_830_692)) (pos 300) 2 29
+  -- r = 2419403: 1911 has 352 days; 1912-01-01 ordinal 1
+  pub length-1911 : YearLength (labels (Reforming (pos 2_419_403))) (pos 1911) 352
+  pub first-gregorian-1912 : Dated (Reforming (pos 2_419_403)) (pos 2_419_403) (pos 1912) 1 1 1
+  -- r = 2361222: 1752-09-14 ordinal 247, day ordinal 3
+  pub first-gregorian-1752 : Dated (Reforming (pos 2_361_222)) (pos 2_361_222) (pos 1752) 9 14 247
+  pub day-ordinal-1752 : DayOrdinal (labels (Reforming (pos 2_361_222))) (pos 2_361_222) 3
+  -- r = 2419751: 1912-12-14 ordinal 336, day ordinal 1
+  pub first-gregorian-december : Dated (Reforming (pos 2_419_751)) (pos 2_419_751) (pos 1912) 12 14 336
+  pub day-ordinal-december : DayOrdinal (labels (Reforming (pos 2_419_751))) (pos 2_419_751) 1
+  -- 2299161 is a Friday; t = -1 is day 2440587, 86399 s
+  pub friday : weekday (pos 2_299_161) ≡ 5
+  pub second-before-epoch : UnixTime (negsuc 0) (pos 2_440_587) 86_399
+
+-- ---- The proof: each day by its year, month and day in the calendar that labels it, and its places by the first days of year and month.
+-- What is asked of the numbers is a test that is computed.
+testThere : (ℕ → Bool) → ℕ → ℕ → ℕ → Bool
+testThere leapAt y m d = leb 352 y && (ltb y 4_294_967_648 && (leb 1 m && (leb m 12 && (leb 1 d && leb d (monthLength (leapAt y) m)))))
+
+module _ (leapAt : ℕ → Bool) (y m d : ℕ) (t : T (testThere leapAt y m d)) where
+  tested : (HeldYear y) × There leapAt y m d
+  unfolding testThere
+  tested =
+      let (a, t₁) = and-yes (leb 352 y) _ t in
+      let (b, t₂) = and-yes (ltb y 4_294_967_648) _ t₁ in
+      let (c, t₃) = and-yes (leb 1 m) _ t₂ in
+      let (e, t₄) = and-yes (leb m 12) _ t₃ in
+      let (f, g) = and-yes (leb 1 d) _ t₄ in
+      (record { from = leb-yes a; to = ltb-yes b }, (leb-yes c, leb-yes e, leb-yes f, leb-yes g))
+
+module _ {c : Calendar} {r : ℕ} (runs : Runs c r) (k y m d : ℕ) (h : HeldYear y) (e : labels c (day k) ≡ label (year y) m d) where
+  ordinal-at : Ordinal (labels c) (day k) (k + 1 - yearFirst r y)
+  ordinal-at = subst (λ (l : Label). Place (λ n. OfYear (l .year) (labels c n)) (day k) (k + 1 - yearFirst r y)) (sym e)
+      (year-stretch runs y h .here k (ap (λ (l : Label). l .year) e) .2)
+
+  day-ordinal-at : 1 ≤ m → m ≤ 12 → DayOrdinal (labels c) (day k) (k + 1 - monthFirst r y m)
+  day-ordinal-at u v = subst (λ (l : Label). Place (λ n. OfMonth (l .year) (l .month) (labels c n)) (day k) (k + 1 - monthFirst r y m)) (sym e)
+      (month-stretch runs y h m u v .here k (ap (λ (l : Label). l .year) e, ap (λ (l : Label). l .month) e) .2)
+
+-- what is known of day k in the calendar c, of year y, month m, day d
+record Known (c : Calendar) (r k y m d : ℕ) : Type 0 where
+  dated : Dated c (day k) (year y) m d (k + 1 - yearFirst r y)
+  day-ordinal : DayOrdinal (labels c) (day k) (k + 1 - monthFirst r y m)
+
+module _ {c : Calendar} {r : ℕ} (runs : Runs c r) (y m d : ℕ) where
+  known : (k : ℕ) → HeldYear y → 1 ≤ m → m ≤ 12 → labels c (day k) ≡ label (year y) m d → Known c r k y m d
+  known k h u v e = record { dated = (e, ordinal-at runs k y m d h e); day-ordinal = day-ordinal-at runs k y m d h e u v }
+
+  in-julian : T (testThere J.leapAt y m d) → T (ltb (number J.leapAt J.start y m d) r) → Known c r (number J.leapAt J.start y m d) y m d
+  in-julian t u =
+      let (h, w) = tested J.leapAt y m d t in
+      known (number J.leapAt J.start y m d) h (w .0) (w .1) (on-old runs y m d refl h w (ltb-yes u))
+
+  in-gregorian : T (testThere G.leapAt y m d) → T (leb r (number G.leapAt G.start y m d)) → Known c r (number G.leapAt G.start y m d) y m d
+  in-gregorian t u =
+      let (h, w) = tested G.leapAt y m d t in
+      known (number G.leapAt G.start y m d) h (w .0) (w .1) (on-new runs y m d refl h w (leb-yes u))
+
+length-at : {c : Calendar} {r : ℕ} → Runs c r → (y : ℕ) → T (leb 352 y) → T (ltb y 4_294_967_648) → YearLength (labels c) (year y) (yearFirst r (y + 1) - yearFirst r y)
+length-at runs y h k = year-stretch runs y (record { from = leb-yes h; to = ltb-yes k }) .days
+
+reforming : (r : ℕ) → T (leb 784_368_640_634 r) → T (leb r 786_514_249_530) → Runs (Reforming (day r)) r
+reforming r h k = reforming-runs r (accepts r (leb-yes h) (leb-yes k))
+
+not-there : There G.leapAt 2_147_484_300 2 29 → ⊥
+unfolding monthLength
+not-there (h, k, g, l) = omega arith
+
+pub known-days : KnownDays
+unfolding monthLength testThere
+known-days =
+    let first = in-julian julian-runs 2_147_479_288 1 1 tt tt in
+    let first-new = in-gregorian gregorian-runs 2_147_479_287 11 24 tt tt in
+    let in-1752 = in-gregorian (reforming 784_369_171_164 tt tt) 2_147_485_752 9 14 tt tt in
+    let in-december = in-gregorian (reforming 784_369_229_693 tt tt) 2_147_485_912 12 14 tt tt in
+    record {
+      zero-julian = (ap (λ (l : Label). l .year) (first .dated .0), first .dated .1);
+      zero-gregorian = (ap (λ (l : Label). l .year) (first-new .dated .0), first-new .dated .1);
+      least-julian = in-julian julian-runs 2_141_599_798 3 16 tt tt .dated;
+      least-gregorian = in-gregorian gregorian-runs 2_141_599_677 5 15 tt tt .dated;
+      greatest-julian = in-julian julian-runs 2_153_358_777 10 17 tt tt .dated;
+      greatest-gregorian = in-gregorian gregorian-runs 2_153_358_898 6 3 tt tt .dated;
+      last-julian-1582 = in-julian (reforming 784_369_109_103 tt tt) 2_147_485_582 10 4 tt tt .dated;
+      first-gregorian-1582 = in-gregorian (reforming 784_369_109_103 tt tt) 2_147_485_582 10 15 tt tt .dated;
+      length-1582 = length-at (reforming 784_369_109_103 tt tt) 2_147_485_582 tt tt;
+      last-julian-300 = in-julian (reforming 784_368_640_634 tt tt) 2_147_484_300 2 28 tt tt .dated .0;
+      first-gregorian-300 = in-gregorian (reforming 784_368_640_634 tt tt) 2_147_484_300 3 1 tt tt .dated;
+      missing-300 = on-none (reforming 784_368_640_634 tt tt) 2_147_484_300 2 29 refl (record { from = omega arith; to = omega arith }) not-there (λ t. omega arith);
+      length-1911 = length-at (reforming 784_369_229_345 tt tt) 2_147_485_911 tt tt;
+      first-gregorian-1912 = in-gregorian (reforming 784_369_229_345 tt tt) 2_147_485_912 1 1 tt tt .dated;
+      first-gregorian-1752 = in-1752 .dated;
+      day-ordinal-1752 = in-1752 .day-ordinal;
+      first-gregorian-december = in-december .dated;
+      day-ordinal-december = in-december .day-ordinal;
+      friday = weekday-is 2_149_782_809;
+      second-before-epoch = record { rest = omega arith; adds = refl };
+    }
