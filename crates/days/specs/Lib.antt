@@ -1,4 +1,5 @@
 pub mod DayByDay
+pub mod Examples
 pub mod Steps
 pub mod Order
 pub mod Rising
@@ -12,6 +13,7 @@ pub mod Starts
 pub mod Julian
 pub mod Gregorian
 pub mod Virtual
+pub mod Range
 pub mod Numbers
 pub mod Calendars
 pub mod Reformations

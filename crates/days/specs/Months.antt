@@ -9,7 +9,8 @@ use native.Mathlib.Numerals.{add-one}
 use native.Mathlib.Nat.{zero-add, add-assoc}
 use native.Mathlib.Omega.{arith}
 use borrow.Author.Tests.{lt-ltb, le-ltb}
-use lib.ListN.{drop, getD}
+use Rattle.whole.specs.Tests.{lt-or-ge}
+use lib.ListN.{drop, getD, List·getD-eq-default}
 use Rattle.days.specs.DayByDay.{monthLengths, monthLength}
 use Rattle.days.specs.Year.{yearLength, InYear, through, inYear}
 
@@ -39,7 +40,7 @@ twelve P a b c d e f g h i j k l m u v = by m u v
     by (suc (suc (suc (suc (suc (suc (suc (suc (suc (suc (suc (suc zero)))))))))))) u v = l
     by (suc (suc (suc (suc (suc (suc (suc (suc (suc (suc (suc (suc (suc m))))))))))))) u v = absurd (none m v)
 
--- the monthLengths of the months by three cases
+-- the lengths of the months by three cases
 abbrev pub Short : ℕ → Type 0
 Short m = (m ≡ 4) ⊎ ((m ≡ 6) ⊎ ((m ≡ 9) ⊎ (m ≡ 11)))
 
@@ -57,7 +58,16 @@ pub short : (b : Bool) (m : ℕ) → Short m → monthLength b m ≡ 30
 unfolding monthLength
 short b m = ⊎-elim (ap (monthLength b)) (⊎-elim (ap (monthLength b)) (⊎-elim (ap (monthLength b)) (ap (monthLength b))))
 
--- the monthLengths from month m on, and their sum
+-- what is no month has no day
+pub no-month : (b : Bool) (m : ℕ) → ((1 ≤ m) × (m ≤ 12) → ⊥) → monthLength b m ≡ 0
+unfolding monthLength
+no-month b zero n = refl
+no-month b (suc m) n = List·getD-eq-default (monthLengths b) 0 {n = m} (past n)
+  where
+    past : ((1 ≤ suc m) × (suc m ≤ 12) → ⊥) → 12 ≤ m
+    past n = ⊎-elim (λ h. absurd (n (omega arith, omega arith))) (λ h. h) (lt-or-ge m 12)
+
+-- the lengths from month m on, and their sum
 unfoldable pub rest : Bool → ℕ → List ℕ
 rest b m = drop (m - 1) (monthLengths b)
 

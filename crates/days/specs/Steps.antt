@@ -6,6 +6,7 @@ use mathlib.Core.Bool.{Bool, true, false}
 use mathlib.Core.Logic.{_⊎_, ⊎-elim}
 use Prim.Native.Nat.{ℕ, zero, suc, _+_, _-_, _<_, _≤_}
 use native.Mathlib.Omega.{arith}
+use native.Mathlib.Nat.{add-zero, add-suc}
 use borrow.Author.Tests.{lt-ltb, le-ltb}
 use lib.Dec.{T, leb, leb→le}
 use lib.IntN.{ℤ, pos, negsuc, sucℤ, predℤ, negℤ, _+ℤ_, _-ℤ_, suc-pred, pred-suc, sucℤ-+ℤ, +ℤ-sucℤ, +ℤ-one, +ℤ-invr, +ℤ-idr}
@@ -138,6 +139,18 @@ after leap zero l = l
 after leap (suc k) l = nextLabel leap (after leap k l)
 
 module _ (leap : LeapRule) where
+  -- which is so many single steps
+  pub after-stepping : (k : ℕ) (l : Label) → after leap k l ≡ stepping (nextLabel leap) (prevLabel leap) l (pos k)
+  unfolding after stepping
+  after-stepping zero l = refl
+  after-stepping (suc k) l = ap (nextLabel leap) (after-stepping k l)
+
+  -- j days on from k days on
+  pub after-sum : (k j : ℕ) (l : Label) → after leap (k + j) l ≡ after leap j (after leap k l)
+  unfolding after
+  after-sum k zero l = ap (λ (n : ℕ). after leap n l) (add-zero k)
+  after-sum k (suc j) l = ap (λ (n : ℕ). after leap n l) (add-suc k j) ∙ ap (nextLabel leap) (after-sum k j l)
+
   pub after-valid : (k : ℕ) (l : Label) → Valid leap l → Valid leap (after leap k l)
   unfolding after
   after-valid zero l v = v

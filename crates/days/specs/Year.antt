@@ -22,7 +22,7 @@ pub record InYear : Type 0 where
   pub month : ℕ
   pub day : ℕ
 
--- where the o-th day falls, when the months ahead have these monthLengths and the first of them is m
+-- where the o-th day falls, when the months ahead have these lengths and the first of them is m
 unfoldable pub through : List ℕ → ℕ → ℕ → InYear
 through [] m o = record { month = m; day = o }
 through (n ∷ ns) m o = cond (ltb n o) (through ns (suc m) (o - n)) (record { month = m; day = o })

@@ -1,0 +1,40 @@
+-- The definitions tested by computing alone, near the known labels, where a reader can count along.
+-- Assumes nothing.
+use mathlib.Core.Path.{_≡_, refl}
+use lib.IntN.{pos, negsuc}
+use Rattle.days.specs.DayByDay.{label, labelOf, stepping, nextLabel, prevLabel, monthLength, julian, julianLeap, gregorian, gregorianLeap, splice, Reforming, labels, weekday, nextWeekday, prevWeekday}
+
+-- day 59 is 29 February -4712, day -1 is 31 December -4713, day -366 is 31 December -4714
+leap-day : labelOf julian (pos 59) ≡ label (negsuc 4711) 2 29
+unfolding labelOf stepping nextLabel monthLength julian julianLeap
+leap-day = refl
+
+day-before : labelOf julian (negsuc 0) ≡ label (negsuc 4712) 12 31
+unfolding labelOf stepping prevLabel monthLength julian julianLeap
+day-before = refl
+
+year-before : labelOf julian (negsuc 365) ≡ label (negsuc 4713) 12 31
+unfolding labelOf stepping prevLabel monthLength julian julianLeap
+year-before = refl
+
+eve : labelOf gregorian (pos 2_299_160) ≡ label (pos 1582) 10 14
+unfolding labelOf stepping prevLabel monthLength gregorian gregorianLeap
+eve = refl
+
+-- the first day of the reformed calendar of 1582 is 15 October, and not 5 October
+first-of-the-reform : labels (Reforming (pos 2_299_161)) (pos 2_299_161) ≡ label (pos 1582) 10 15
+unfolding splice labelOf stepping gregorian
+first-of-the-reform = refl
+
+-- day 0 is a Monday, day 6 a Sunday, and so is day -1
+monday : weekday (pos 0) ≡ 1
+unfolding weekday stepping
+monday = refl
+
+sunday : weekday (pos 6) ≡ 7
+unfolding weekday stepping nextWeekday
+sunday = refl
+
+sunday-before : weekday (negsuc 0) ≡ 7
+unfolding weekday stepping prevWeekday
+sunday-before = refl

@@ -1,0 +1,44 @@
+-- What the conversions say of days and years that are held as naturals. A 32-bit number that was raised by 2147483648 is held as somewhat more.
+use mathlib.Core.Path.{_≡_}
+use mathlib.Core.Bool.{Bool}
+use Prim.Native.Nat.{ℕ, _+_, _-_, _/_, _≤_, _<_}
+use Rattle.days.specs.DayByDay.{Is32Bit, monthLength}
+use Rattle.days.specs.Held.{day, HeldDay}
+use Rattle.days.specs.Year.{yearLength}
+use Rattle.days.specs.Numbers.{daysBefore}
+use Rattle.inner.specs.declared.DayNumber.{DayNumber}
+use Rattle.inner.specs.declared.DayNumber.the-variants as DayNumber′
+
+abbrev pub heldDay : ℕ → ℕ
+heldDay x = x + 782_219_326_294
+
+abbrev pub heldYear : ℕ → ℕ
+heldYear x = x + 352
+
+-- a held day as a number of 32 bits
+pub data Lowers (k : ℕ) : DayNumber → Type 0 where
+  within : HeldDay k → Lowers k (DayNumber′.Day (day k))
+  beyond : ¬ Is32Bit (day k) → Lowers k DayNumber′.Outside32
+
+-- the o-th day of a year that is leap, or not, and starts on a held day
+pub data OrdinalNumber (leap : Bool) (start o : ℕ) : DayNumber → Type 0 where
+  off-year : ((1 ≤ o) × (o ≤ yearLength leap) → ⊥) → OrdinalNumber leap start o DayNumber′.Nothing
+  on-year : 1 ≤ o → o ≤ yearLength leap → {d : DayNumber} → Lowers (start + o - 1) d → OrdinalNumber leap start o d
+
+-- day r of a cycle, from 1, with the virtual leap days before it
+pub record VirtualPoint (r p : ℕ) : Type 0 where
+  pub first-year : r < 366 → p ≡ r + 1
+  pub later-year : 366 ≤ r → p ≡ r + (r - 366) / 36_524 + 1
+
+abbrev pub Month : ℕ → Type 0
+Month m = (1 ≤ m) × (m ≤ 12)
+
+pub record Within (leap : Bool) (o : ℕ) : Type 0 where
+  pub from : 1 ≤ o
+  pub to : o ≤ yearLength leap
+
+-- m is the month of the o-th day of a year
+pub record MonthOf (leap : Bool) (o m : ℕ) : Type 0 where
+  pub month : Month m
+  pub past : daysBefore leap m < o
+  pub until : o ≤ daysBefore leap m + monthLength leap m

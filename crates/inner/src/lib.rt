@@ -1,0 +1,309 @@
+// The conversions of one reckoning, Julian or Gregorian: leap years, day number to year and ordinal and back, ordinal to month and day and back.
+// Days and years go through as naturals: a number of 32 bits is raised by 2147483648 on its way in, so that no sum has a sign.
+
+ghost use mathlib.Core.Path.{_≡_};
+ghost use Prim.Native.Nat.{_+_, _<_, _≤_};
+ghost use Rattle.days.specs.DayByDay.{julian, gregorian, julianLeap, gregorianLeap, labelOf, monthLength};
+ghost use Rattle.days.specs.Starts.{Spot};
+ghost use Rattle.days.specs.Year.{yearLength};
+ghost use Rattle.days.specs.Numbers.{daysBefore, toThirty};
+ghost use Rattle.days.specs.Julian as J;
+ghost use Rattle.days.specs.Gregorian as G;
+ghost use Rattle.inner.specs.Promise.{YearAndOrdinal, DayOfOrdinal, MonthDayOf, OrdinalOf};
+ghost use Rattle.inner.specs.Natural.{heldDay, heldYear, VirtualPoint, Month, Within, MonthOf, Lowers, OrdinalNumber};
+use whole::lowered;
+use whole::raised;
+
+// ---- Leap years
+
+pub fn is_julian_leap_year(year: i32) -> bool
+    ensures { λ r. ⌜ r ≡ julianLeap year ⌝ }
+{
+    is_julian_leap(raised(year))
+}
+
+pub fn is_gregorian_leap_year(year: i32) -> bool
+    ensures { λ r. ⌜ r ≡ gregorianLeap year ⌝ }
+{
+    is_gregorian_leap(raised(year))
+}
+
+// The same of a raised year. 352 more make it a multiple of 400 exactly when the year is one.
+pub fn is_julian_leap(year: u32) -> bool
+    ensures { λ r. ⌜ r ≡ J.leapAt (heldYear year) ⌝ }
+{
+    let y = year as u64 + 352;
+    y % 4 == 0
+}
+
+pub fn is_gregorian_leap(year: u32) -> bool
+    ensures { λ r. ⌜ r ≡ G.leapAt (heldYear year) ⌝ }
+{
+    let y = year as u64 + 352;
+    if y % 4 != 0 {
+        return false;
+    }
+    if y % 100 != 0 {
+        return true;
+    }
+    y % 400 == 0
+}
+
+pub fn days_in_year(leap: bool) -> u32
+    ensures { λ r. ⌜ r ≡ yearLength leap ⌝ }
+{
+    if leap { 366 } else { 365 }
+}
+
+// ---- From a day number to its year and ordinal
+
+pub struct YearDay {
+    pub year: i32,
+    pub ordinal: u32,
+}
+
+pub fn jdn2julian(jdn: i32) -> YearDay
+    ensures { λ r. ⌜ YearAndOrdinal (labelOf julian) jdn (r .year) (r .ordinal) ⌝ }
+{
+    let place = julian_place(raised(jdn));
+    YearDay {
+        year: lowered(place.year),
+        ordinal: place.ordinal,
+    }
+}
+
+pub fn jdn2gregorian(jdn: i32) -> YearDay
+    ensures { λ r. ⌜ YearAndOrdinal (labelOf gregorian) jdn (r .year) (r .ordinal) ⌝ }
+{
+    let place = gregorian_place(raised(jdn));
+    YearDay {
+        year: lowered(place.year),
+        ordinal: place.ordinal,
+    }
+}
+
+// The same of a raised day, with the raised year.
+pub struct Place {
+    pub year: u32,
+    pub ordinal: u32,
+}
+
+pub fn julian_place(day: u32) -> Place
+    ensures { λ r. ⌜ Spot J.leapAt J.start (heldDay day) (heldYear (r .year)) (r .ordinal) ⌝ }
+{
+    let place = decompose_julian(day as u64 + 782_219_326_294);
+    Place {
+        year: (place.year - 352) as u32,
+        ordinal: place.ordinal as u32,
+    }
+}
+
+// Counted from the first day of a cycle of 400 years, with a virtual leap day at the end of each year that is leap by the Julian rule alone,
+// the Julian rule finds year and ordinal.
+pub fn gregorian_place(day: u32) -> Place
+    ensures { λ r. ⌜ Spot G.leapAt G.start (heldDay day) (heldYear (r .year)) (r .ordinal) ⌝ }
+{
+    let days = day as u64 + 782_203_220_162;
+    let cycles = days / 146_097;
+    let place = decompose_julian(virtual_point(days % 146_097) - 1);
+    Place {
+        year: (400 * cycles + place.year - 352) as u32,
+        ordinal: place.ordinal as u32,
+    }
+}
+
+// The place of a day in its cycle of 400 years, from 1, with the virtual leap days before it. Their number is the quotient of r - 366 by
+// the days of a common century, truncated towards zero: the first year of a cycle, where r - 366 is negative, has none before it.
+fn virtual_point(r: u64) -> u64
+    requires { ⌜ r < 146_097 ⌝ }
+    ensures { λ p. ⌜ VirtualPoint r p ⌝ }
+{
+    let floor_and_one = (r + 36_158) / 36_524;
+    if floor_and_one < 1 {
+        return r + 1;
+    }
+    r + floor_and_one
+}
+
+struct LongPlace {
+    year: u64,
+    ordinal: u64,
+}
+
+// Year and ordinal in a count of days in which every fourth year is leap, beginning with the first.
+fn decompose_julian(days: u64) -> LongPlace
+    ensures { λ r. ⌜ Spot J.leapAt J.start days (r .year) (r .ordinal) ⌝ }
+{
+    let cycles = days / 1461;
+    let rest = days % 1461;
+    if rest < 366 {
+        return LongPlace {
+            year: 4 * cycles,
+            ordinal: rest + 1,
+        };
+    }
+    let after_first_year = rest - 366;
+    LongPlace {
+        year: 4 * cycles + 1 + after_first_year / 365,
+        ordinal: after_first_year % 365 + 1,
+    }
+}
+
+// ---- From a year and an ordinal to the day number
+
+// The number of the day; that there is no such day; or that 32 bits do not hold its number.
+pub enum DayNumber {
+    Day(i32),
+    Nothing,
+    Outside32,
+}
+
+pub fn julian2jdn(year: i32, ordinal: u32) -> DayNumber
+    ensures { λ r. ⌜ DayOfOrdinal (labelOf julian) year ordinal r ⌝ }
+{
+    let y = raised(year);
+    ordinal_number(is_julian_leap(y), julian_start(y), ordinal)
+}
+
+pub fn gregorian2jdn(year: i32, ordinal: u32) -> DayNumber
+    ensures { λ r. ⌜ DayOfOrdinal (labelOf gregorian) year ordinal r ⌝ }
+{
+    let y = raised(year);
+    ordinal_number(is_gregorian_leap(y), gregorian_start(y), ordinal)
+}
+
+// The day with this place in a year that starts on a held day.
+fn ordinal_number(leap: bool, start: u64, ordinal: u32) -> DayNumber
+    requires { ⌜ start < 4_000_000_000_000 ⌝ }
+    ensures { λ r. ⌜ OrdinalNumber leap start ordinal r ⌝ }
+{
+    if ordinal < 1 {
+        return DayNumber::Nothing;
+    }
+    if days_in_year(leap) < ordinal {
+        return DayNumber::Nothing;
+    }
+    day_number(start + ordinal as u64 - 1)
+}
+
+// The first day of a raised year, 784366809942 above its number.
+pub fn julian_start(year: u32) -> u64
+    ensures { λ r. ⌜ r ≡ J.start (heldYear year) ⌝ }
+{
+    let y = year as u64 + 352;
+    365 * y + (y + 3) / 4
+}
+
+pub fn gregorian_start(year: u32) -> u64
+    ensures { λ r. ⌜ r ≡ G.start (heldYear year) ⌝ }
+{
+    let y = year as u64 + 352;
+    365 * y + (y + 3) / 4 + (y + 399) / 400 + 16_106_132 - (y + 99) / 100
+}
+
+// A day that is held as so much more than its number, in 32 bits.
+pub fn day_number(day: u64) -> DayNumber
+    ensures { λ r. ⌜ Lowers day r ⌝ }
+{
+    if day < 782_219_326_294 {
+        return DayNumber::Outside32;
+    }
+    if 786_514_293_590 <= day {
+        return DayNumber::Outside32;
+    }
+    DayNumber::Day(lowered((day - 782_219_326_294) as u32))
+}
+
+// ---- Months and days of a year
+
+pub enum MonthDay {
+    At(u32, u32),
+    Nothing,
+}
+
+pub enum DayOrdinal {
+    At(u32),
+    Nothing,
+}
+
+// Month and day of a place in a year.
+pub fn ordinal2md(leap: bool, ordinal: u32) -> MonthDay
+    ensures { λ r. ⌜ MonthDayOf leap ordinal r ⌝ }
+{
+    if ordinal < 1 {
+        return MonthDay::Nothing;
+    }
+    if days_in_year(leap) < ordinal {
+        return MonthDay::Nothing;
+    }
+    let month = month_of(leap, ordinal);
+    MonthDay::At(month, ordinal - days_before(leap, month))
+}
+
+// And back.
+pub fn md2ordinal(leap: bool, month: u32, day: u32) -> DayOrdinal
+    ensures { λ r. ⌜ OrdinalOf leap month day r ⌝ }
+{
+    if day < 1 {
+        return DayOrdinal::Nothing;
+    }
+    if days_in_month(leap, month) < day {
+        return DayOrdinal::Nothing;
+    }
+    DayOrdinal::At(days_before(leap, month) + day)
+}
+
+// No day where there is no such month.
+pub fn days_in_month(leap: bool, month: u32) -> u32
+    ensures { λ r. ⌜ r ≡ monthLength leap month ⌝ }
+{
+    if month < 1 {
+        return 0;
+    }
+    if 12 < month {
+        return 0;
+    }
+    match month {
+        2 => { if leap { 29 } else { 28 } }
+        4 | 6 | 9 | 11 => 30,
+        _ => 31,
+    }
+}
+
+// If February had 30 days, the months would go by 367 / 12 days.
+fn days_before(leap: bool, month: u32) -> u32
+    requires { ⌜ Month month ⌝ }
+    ensures { λ r. ⌜ r ≡ daysBefore leap month ⌝ }
+{
+    let days = (367 * month - 362) / 12;
+    if month < 3 {
+        return days;
+    }
+    if leap {
+        return days - 1;
+    }
+    days - 2
+}
+
+// How many days later a day would stand.
+fn to_thirty(leap: bool, ordinal: u32) -> u32
+    ensures { λ r. ⌜ (r ≡ toThirty leap ordinal) × (r ≤ 2) ⌝ }
+{
+    if leap {
+        if 60 < ordinal {
+            return 1;
+        }
+        return 0;
+    }
+    if 59 < ordinal {
+        return 2;
+    }
+    0
+}
+
+fn month_of(leap: bool, ordinal: u32) -> u32
+    requires { ⌜ Within leap ordinal ⌝ }
+    ensures { λ r. ⌜ MonthOf leap ordinal r ⌝ }
+{
+    (12 * (ordinal + to_thirty(leap, ordinal)) + 361) / 367
+}
