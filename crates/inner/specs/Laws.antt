@@ -1,12 +1,14 @@
 -- From the arithmetic of the conversions to what they promise. A reckoning alone is a calendar with one run of days.
 -- Assumes nothing.
 use mathlib.Core.Path.{_≡_, refl, sym, _∙_, ap, subst}
-use mathlib.Core.Bool.{Bool}
+use mathlib.Core.Bool.{Bool, true, false, cond}
 use mathlib.Core.Logic.{⊎-elim}
 use Prim.Native.Nat.{ℕ, zero, suc, _+_, _-_, _*_, _/_, _%_, _<_, _≤_, _^_}
 use native.Mathlib.Omega.{arith}
 use native.Mathlib.Nat.{add-comm}
 use native.Mathlib.Numerals.{add-one}
+use borrow.Author.Tests.{lt-ltb, le-ltb, ltb-true}
+use lib.Dec.{ltb}
 use lib.IntN.{ℤ, pos, sucℤ}
 use lib.Signed.{_<ℤ_, _≤ℤ_, clashℤ}
 use mir.Syntax.{w32}
@@ -17,7 +19,8 @@ use Rattle.whole.specs.Machine.{back, unbias-both}
 use Rattle.whole.specs.Edge.{unbias-fits-only}
 use Rattle.whole.specs.Integers.{lt-suc, eq-le}
 use Rattle.days.specs.DayByDay.{Label, label, LeapRule, Reckoning, nextLabel, prevLabel, stepping, labelOf, julian, gregorian, julianLeap, gregorianLeap, monthLength, Calendar, Julian, Gregorian, labels, OfYear, Place, Ordinal, Is32Bit}
-use Rattle.days.specs.Steps.{Valid, month-some, after, after-stepping, after-sum, after-valid}
+use Rattle.days.specs.Steps as Steps
+use Rattle.days.specs.Steps.{Valid, after, after-stepping, after-sum, after-valid}
 use Rattle.days.specs.Order.{≺-year}
 use Rattle.days.specs.Rising.{nth-within}
 use Rattle.days.specs.Held.{dayBias, yearBias, day, year, HeldDay, HeldYear}
@@ -27,7 +30,7 @@ use Rattle.days.specs.Starts.{Starts, Spot, label-of}
 use Rattle.days.specs.Julian as J
 use Rattle.days.specs.Gregorian as G
 use Rattle.days.specs.Virtual.{spot-gregorian}
-use Rattle.days.specs.Numbers.{daysBefore, before, monthAt, month-at}
+use Rattle.days.specs.Numbers.{daysBefore, before, toThirty, monthAt, month-at}
 use Rattle.days.specs.Calendars.{after-later}
 use Rattle.days.specs.Table.{fits-held}
 use Rattle.days.specs.Runs.{Runs, top, julian-runs, gregorian-runs, yearFirst, first-julian, first-gregorian, year-stretch, year-plain}
@@ -36,7 +39,7 @@ use Rattle.inner.specs.declared.DayNumber.the-variants as DayNumber′
 use Rattle.inner.specs.declared.MonthDay.the-variants as MonthDay′
 use Rattle.inner.specs.declared.DayOrdinal.the-variants as DayOrdinal′
 use Rattle.inner.specs.Promise.{YearAndOrdinal, OrdinalDay, DayOfOrdinal, numbered, no-such-day, outside-32, InYear, MonthDayOf, month-day, OrdinalOf, ordinal}
-use Rattle.inner.specs.Natural.{heldDay, heldYear, VirtualPoint, Lowers, within, beyond, OrdinalNumber, off-year, on-year, Month, Within, MonthOf}
+use Rattle.inner.specs.Natural.{heldDay, heldYear, VirtualPoint, Lowers, within, beyond, OrdinalNumber, off-year, on-year, Month, MonthDayAt}
 
 -- ---- Raised numbers
 
@@ -190,7 +193,7 @@ lowers-within {k} {z} h g e =
 
 -- ---- Months and days of a year
 first-valid : (rule : LeapRule) (y : ℤ) → Valid rule (label y 1 1)
-first-valid rule y = record { month-from = omega arith; month-to = omega arith; day-from = omega arith; day-to = month-some (rule y) 1 (omega arith) (omega arith) }
+first-valid rule y = record { month-from = omega arith; month-to = omega arith; day-from = omega arith; day-to = Steps.month-some (rule y) 1 (omega arith) (omega arith) }
 
 module _ (leap : Bool) where
   pub in-year-at : (o : ℕ) → 1 ≤ o → o ≤ yearLength leap → InYear leap o (inYear leap o .month) (inYear leap o .day)
@@ -209,13 +212,6 @@ module _ (leap : Bool) where
       let p : InYear leap (daysBefore leap m + d) (inYear leap (daysBefore leap m + d) .month) (inYear leap (daysBefore leap m + d) .day) =
       in-year-at (daysBefore leap m + d) (omega arith) (ordinal-within leap m (daysBefore leap m) d u v t (before leap m u v)) in
       subst (λ (i : MonthAndDay). InYear leap (daysBefore leap m + d) (i .month) (i .day)) e p
-
-  pub in-year-ordinal-at : (o m : ℕ) → MonthOf leap o m → InYear leap o m (o - daysBefore leap m)
-  in-year-ordinal-at o m p = subst (λ (n : ℕ). InYear leap n m (o - daysBefore leap m)) sum
-      (in-year-month m (o - daysBefore leap m) (p .month) (omega (arith, p .past)) (omega (arith, p .until)))
-    where
-      sum : daysBefore leap m + (o - daysBefore leap m) ≡ o
-      sum = omega (arith, p .past)
 
   -- a label that comes so is of a month, and a day of it, and comes within the year
   pub in-year-valid : {o m d : ℕ} → InYear leap o m d → Month m × (1 ≤ d) × (d ≤ monthLength leap m)
@@ -244,11 +240,79 @@ module _ (leap : Bool) where
           let e : yearLength leap + (o - 1 - yearLength leap) ≡ o - 1 = omega arith in
           clashℤ (lt-suc (pos 0)) (subst (λ (l : Label). pos 1 ≤ℤ (l .year)) (come (o - 1 - yearLength leap) e) (later (o - 1 - yearLength leap)))
 
--- the month by arithmetic
-pub month-by : {leap : Bool} {o m : ℕ} → Within leap o → m ≡ monthAt leap o → MonthOf leap o m
-month-by {leap} {o} {m} w f =
-    let (a, b, c, d) = month-at leap o (w .from) (w .to) in
-    rw f (record { month = (a, b); past = c; until = d })
+-- ---- The month by arithmetic
+
+-- the place o as it would be if February had 30 days, and its month m by division
+module _ (leap : Bool) (o t m : ℕ) (f : 1 ≤ o) (e : t ≡ toThirty leap o) (g : m ≡ (12 * (o + t) + 361) / 367) where
+  thirty-few : t ≤ 2
+  thirty-few = rw e (few leap (ltb (cond leap 60 59) o))
+    where
+      few : (b c : Bool) → cond c (cond b 1 2) 0 ≤ 2
+      few true true = omega arith
+      few true false = omega arith
+      few false true = omega arith
+      few false false = omega arith
+
+  pub month-some : 1 ≤ m
+  month-some = omega arith
+
+  pub month-room : o < 2 ^ 33 → m < 2 ^ 32
+  month-room h = omega (arith, thirty-few)
+
+  pub day-some : (367 * m - 362) / 12 < o + t
+  day-some = omega arith
+
+  pub day-few : o + t - (367 * m - 362) / 12 ≤ 31
+  day-few = omega arith
+
+  -- past February exactly where the place is
+  same-side : toThirty leap o ≡ cond (ltb 2 m) (cond leap 1 2) 0
+  same-side = ⊎-elim
+      (λ h. late h)
+      (λ h. early h)
+      (lt-or-ge (cond leap 60 59) o)
+    where
+      past : (b : Bool) → cond b 60 59 < o → toThirty b o ≡ cond b 1 2
+      past b h = simp (lt-ltb (cond b 60 59) o h)
+
+      not-past : (b : Bool) → o ≤ cond b 60 59 → toThirty b o ≡ 0
+      not-past b h = simp (le-ltb (cond b 60 59) o h)
+
+      after : (b : Bool) → cond b 60 59 < o → t ≡ cond b 1 2 → 2 < m
+      after true h q = omega arith
+      after false h q = omega arith
+
+      before-march : (b : Bool) → o ≤ cond b 60 59 → t ≡ 0 → m ≤ 2
+      before-march true h q = omega arith
+      before-march false h q = omega arith
+
+      late : cond leap 60 59 < o → toThirty leap o ≡ cond (ltb 2 m) (cond leap 1 2) 0
+      late h = past leap h ∙ sym (ap (λ (b : Bool). cond b (cond leap 1 2) 0) (lt-ltb 2 m (after leap h (e ∙ past leap h))))
+
+      early : o ≤ cond leap 60 59 → toThirty leap o ≡ cond (ltb 2 m) (cond leap 1 2) 0
+      early h = not-past leap h ∙ sym (ap (λ (b : Bool). cond b (cond leap 1 2) 0) (le-ltb 2 m (before-march leap h (e ∙ not-past leap h))))
+
+  pub month-day-at : MonthDayAt leap o m (o + t - (367 * m - 362) / 12)
+  month-day-at = record {
+    month-is = g ∙ ap (λ (t : ℕ). (12 * (o + t) + 361) / 367) e;
+    day-is = sum (cond (ltb 2 m) (cond leap 1 2) 0) ((367 * m - 362) / 12) (e ∙ same-side) day-some (room leap (ltb 2 m) refl);
+  }
+    where
+      sum : (s q : ℕ) → t ≡ s → q < o + t → s ≤ q → q - s + (o + t - q) ≡ o
+      sum s q a b c = omega arith
+
+      room : (b c : Bool) → ltb 2 m ≡ c → cond c (cond b 1 2) 0 ≤ (367 * m - 362) / 12
+      room true true q = omega (arith, ltb-true 2 m q)
+      room false true q = omega (arith, ltb-true 2 m q)
+      room true false q = omega arith
+      room false false q = omega arith
+
+-- within a year it is the month, and the day of the month
+pub month-day-in : {leap : Bool} {o m d : ℕ} → 1 ≤ o → o ≤ yearLength leap → MonthDayAt leap o m d → Month m × (1 ≤ d) × (d ≤ monthLength leap m)
+month-day-in {leap} {o} {m} {d} f t p =
+    let (a, b, c, e) = month-at leap o f t in
+    let q : (1 ≤ m) × (m ≤ 12) × (daysBefore leap m < o) × (o ≤ daysBefore leap m + monthLength leap m) = rw (p .month-is) (a, b, c, e) in
+    ((q .0, q .1), omega (arith, p .day-is, q .2), omega (arith, p .day-is, q .3))
 
 -- a month that has a day is a month
 pub month-of-length : (leap : Bool) {m d : ℕ} → 1 ≤ d → d ≤ monthLength leap m → Month m
@@ -267,8 +331,10 @@ month-of-length leap {m} {d} f t = (
     past-last h k = omega arith
 
 -- the answers
-pub month-answer : {leap : Bool} {o m b : ℕ} → MonthOf leap o m → b ≡ daysBefore leap m → MonthDayOf leap o (MonthDay′.At m (o - b))
-month-answer {leap} {o} {m} p e = rw e (month-day (in-year-ordinal-at leap o m p))
+pub month-answer : {leap : Bool} {o m d : ℕ} → 1 ≤ o → o ≤ yearLength leap → MonthDayAt leap o m d → MonthDayOf leap o (MonthDay′.At m d)
+month-answer {leap} {o} {m} {d} f t p =
+    let (v, u, w) = month-day-in f t p in
+    month-day (subst (λ (o : ℕ). InYear leap o m d) (p .day-is) (in-year-month leap m d v u w))
 
 module _ (leap : Bool) (m d : ℕ) {l : ℕ} (e : l ≡ monthLength leap m) (f : 1 ≤ d) (t : d ≤ l) where
   pub month-there : Month m

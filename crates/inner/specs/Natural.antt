@@ -2,10 +2,10 @@
 use mathlib.Core.Path.{_≡_}
 use mathlib.Core.Bool.{Bool}
 use Prim.Native.Nat.{ℕ, _+_, _-_, _/_, _≤_, _<_}
-use Rattle.days.specs.DayByDay.{Is32Bit, monthLength}
+use Rattle.days.specs.DayByDay.{Is32Bit}
 use Rattle.days.specs.Held.{day, HeldDay}
 use Rattle.days.specs.Year.{yearLength}
-use Rattle.days.specs.Numbers.{daysBefore}
+use Rattle.days.specs.Numbers.{daysBefore, monthAt}
 use Rattle.inner.specs.declared.DayNumber.{DayNumber}
 use Rattle.inner.specs.declared.DayNumber.the-variants as DayNumber′
 
@@ -33,12 +33,7 @@ pub record VirtualPoint (r p : ℕ) : Type 0 where
 abbrev pub Month : ℕ → Type 0
 Month m = (1 ≤ m) × (m ≤ 12)
 
-pub record Within (leap : Bool) (o : ℕ) : Type 0 where
-  pub from : 1 ≤ o
-  pub to : o ≤ yearLength leap
-
--- m is the month of the o-th day of a year
-pub record MonthOf (leap : Bool) (o m : ℕ) : Type 0 where
-  pub month : Month m
-  pub past : daysBefore leap m < o
-  pub until : o ≤ daysBefore leap m + monthLength leap m
+-- day d of month m has the place o in a year; past the year's end, in months that would follow by the same arithmetic
+pub record MonthDayAt (leap : Bool) (o m d : ℕ) : Type 0 where
+  pub month-is : m ≡ monthAt leap o
+  pub day-is : daysBefore leap m + d ≡ o

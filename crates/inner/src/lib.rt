@@ -10,7 +10,7 @@ ghost use Rattle.days.specs.Numbers.{daysBefore, toThirty};
 ghost use Rattle.days.specs.Julian as J;
 ghost use Rattle.days.specs.Gregorian as G;
 ghost use Rattle.inner.specs.Promise.{YearAndOrdinal, DayOfOrdinal, MonthDayOf, OrdinalOf};
-ghost use Rattle.inner.specs.Natural.{heldDay, heldYear, VirtualPoint, Month, Within, MonthOf, Lowers, OrdinalNumber};
+ghost use Rattle.inner.specs.Natural.{heldDay, heldYear, VirtualPoint, Month, MonthDayAt, Lowers, OrdinalNumber};
 use whole::lowered;
 use whole::raised;
 
@@ -236,8 +236,8 @@ pub fn ordinal2md(leap: bool, ordinal: u32) -> MonthDay
     if days_in_year(leap) < ordinal {
         return MonthDay::Nothing;
     }
-    let month = month_of(leap, ordinal);
-    MonthDay::At(month, ordinal - days_before(leap, month))
+    let at = month_day(leap, ordinal - 1);
+    MonthDay::At(at.month, at.day)
 }
 
 // And back.
@@ -285,25 +285,35 @@ fn days_before(leap: bool, month: u32) -> u32
     days - 2
 }
 
-// How many days later a day would stand.
-fn to_thirty(leap: bool, ordinal: u32) -> u32
-    ensures { λ r. ⌜ (r ≡ toThirty leap ordinal) × (r ≤ 2) ⌝ }
+// Month and day so many days after 1 January; past the year's end, in months that would follow.
+pub struct MonthAndDay {
+    pub month: u32,
+    pub day: u32,
+}
+
+pub fn month_day(leap: bool, days: u32) -> MonthAndDay
+    ensures { λ r. ⌜ MonthDayAt leap (days + 1) (r .month) (r .day) ⌝ }
+{
+    let place = days as u64 + 1 + to_thirty(leap, days);
+    let month = (12 * place + 361) / 367;
+    MonthAndDay {
+        month: month as u32,
+        day: (place - (367 * month - 362) / 12) as u32,
+    }
+}
+
+// How many days later a day would stand if February had 30.
+fn to_thirty(leap: bool, days: u32) -> u64
+    ensures { λ r. ⌜ (r ≡ toThirty leap (days + 1)) × (r ≤ 2) ⌝ }
 {
     if leap {
-        if 60 < ordinal {
+        if 60 <= days {
             return 1;
         }
         return 0;
     }
-    if 59 < ordinal {
+    if 59 <= days {
         return 2;
     }
     0
-}
-
-fn month_of(leap: bool, ordinal: u32) -> u32
-    requires { ⌜ Within leap ordinal ⌝ }
-    ensures { λ r. ⌜ MonthOf leap ordinal r ⌝ }
-{
-    (12 * (ordinal + to_thirty(leap, ordinal)) + 361) / 367
 }
