@@ -13,7 +13,7 @@ use Rattle.days.specs.Julian as J
 use Rattle.days.specs.Gregorian as G
 use Rattle.days.specs.Numbers.{There, number}
 use Rattle.days.specs.Table.{accepts}
-use Rattle.days.specs.Runs.{Runs, julian-runs, gregorian-runs, reforming-runs, on-old, on-new, on-none, year-stretch, month-stretch, yearFirst, monthFirst}
+use Rattle.days.specs.Runs.{Runs, julian-runs, gregorian-runs, reforming-runs, on-old, on-new, on-none, ordinal-at, day-ordinal-at, year-stretch, yearFirst, monthFirst}
 use Rattle.days.specs.Weekdays.{weekday-is}
 
 -- ---- The statement
@@ -76,15 +76,6 @@ module _ (leapAt : ℕ → Bool) (y m d : ℕ) (t : T (testThere leapAt y m d)) 
       let (e, t₄) = and-yes (leb m 12) _ t₃ in
       let (f, g) = and-yes (leb 1 d) _ t₄ in
       (record { from = leb-yes a; to = ltb-yes b }, (leb-yes c, leb-yes e, leb-yes f, leb-yes g))
-
-module _ {c : Calendar} {r : ℕ} (runs : Runs c r) (k y m d : ℕ) (h : HeldYear y) (e : labels c (day k) ≡ label (year y) m d) where
-  ordinal-at : Ordinal (labels c) (day k) (k + 1 - yearFirst r y)
-  ordinal-at = subst (λ (l : Label). Place (λ n. OfYear (l .year) (labels c n)) (day k) (k + 1 - yearFirst r y)) (sym e)
-      (year-stretch runs y h .here k (ap (λ (l : Label). l .year) e) .2)
-
-  day-ordinal-at : 1 ≤ m → m ≤ 12 → DayOrdinal (labels c) (day k) (k + 1 - monthFirst r y m)
-  day-ordinal-at u v = subst (λ (l : Label). Place (λ n. OfMonth (l .year) (l .month) (labels c n)) (day k) (k + 1 - monthFirst r y m)) (sym e)
-      (month-stretch runs y h m u v .here k (ap (λ (l : Label). l .year) e, ap (λ (l : Label). l .month) e) .2)
 
 -- what is known of day k in the calendar c, of year y, month m, day d
 record Known (c : Calendar) (r k y m d : ℕ) : Type 0 where

@@ -16,7 +16,7 @@ use lib.Signed.{_<ℤ_, _≤ℤ_}
 use Rattle.whole.specs.Tests as N
 use Rattle.whole.specs.Biased.{unbias, unbias-suc, unbias-back, unbias-injective}
 use Rattle.whole.specs.Integers.{lt-or-ge, unbias-up, unbias-down, unbias-le}
-use Rattle.days.specs.DayByDay.{Label, label, Reckoning, labelOf, julian, gregorian, monthLength, _≺_, Calendar, Julian, Gregorian, Reforming, labels, Style, JulianStyle, GregorianStyle, style, Rises, Borne, OfYear, OfMonth, Accepted, julian-accepted, gregorian-accepted, reforming-accepted, AcceptedReformation, SwitchDay, reforms, Skipped}
+use Rattle.days.specs.DayByDay.{Label, label, Reckoning, labelOf, julian, gregorian, monthLength, _≺_, Calendar, Julian, Gregorian, Reforming, labels, Style, JulianStyle, GregorianStyle, style, Rises, Borne, OfYear, OfMonth, Place, Ordinal, DayOrdinal, Accepted, julian-accepted, gregorian-accepted, reforming-accepted, AcceptedReformation, SwitchDay, reforms, Skipped}
 use Rattle.days.specs.Rising.{up-back, once}
 use Rattle.days.specs.Splice.{splice-below, splice-from, splice-either}
 use Rattle.days.specs.Spans.{Span, First, first-by, Stretch, stretch, year-span, month-span, nextMonth}
@@ -332,3 +332,13 @@ module _ {c : Calendar} {r : ℕ} (runs : Runs c r) where
       pub month-plain : r ≤ gregorianMonth y m → monthFirst r y m ≡ gregorianMonth y m
       month-plain k = first-plain runs (julianMonth y m) (gregorianMonth y m) (old-month .at) (new-month .at) (old-month .some) (omega (arith, old-month .room, old-month .later))
           (new-month .some) (omega (arith, new-month .room, new-month .later)) k
+
+-- the places of a day whose label is known
+module _ {c : Calendar} {r : ℕ} (runs : Runs c r) (k y m d : ℕ) (h : HeldYear y) (e : labels c (day k) ≡ label (year y) m d) where
+  pub ordinal-at : Ordinal (labels c) (day k) (k + 1 - yearFirst r y)
+  ordinal-at = subst (λ (l : Label). Place (λ n. OfYear (l .year) (labels c n)) (day k) (k + 1 - yearFirst r y)) (sym e)
+      (year-stretch runs y h .here k (ap (λ (l : Label). l .year) e) .2)
+
+  pub day-ordinal-at : 1 ≤ m → m ≤ 12 → DayOrdinal (labels c) (day k) (k + 1 - monthFirst r y m)
+  day-ordinal-at u v = subst (λ (l : Label). Place (λ n. OfMonth (l .year) (l .month) (labels c n)) (day k) (k + 1 - monthFirst r y m)) (sym e)
+      (month-stretch runs y h m u v .here k (ap (λ (l : Label). l .year) e, ap (λ (l : Label). l .month) e) .2)

@@ -109,6 +109,19 @@ module _ {c : Calendar} {r : ℕ} {reckoning : Reckoning} {leapAt : ℕ → Bool
     ordinal-is = subst (λ (n : ℤ). Ordinal (labels c) n o) e (subst (λ (z : ℤ). Place (λ d. OfYear z (labels c d)) (day k) o) (sym (of-year p)) (place-of h p));
   }
 
+  -- and the other way round: a day of a year has its ordinal there
+  pub spot-of-year : {k y : ℕ} → HeldYear y → OfYear (year y) (labels c (day k)) → Spot leapAt start k y (k + 1 - start y)
+  spot-of-year {k} {y} h p =
+      let (a, b, q) = year-stretch (alone .runs) y h .here k p in
+      let n : start (y + 1) ≡ start y + yearLength (leapAt y) = ap start (add-one y) ∙ alone .starts .start-next y in
+      between (alone .first y h) (alone .first-next y h ∙ n) a b
+    where
+      between : {a b : ℕ} → a ≡ start y → b ≡ start y + yearLength (leapAt y) → a ≤ k → k < b → Spot leapAt start k y (k + 1 - start y)
+      between e f g i = record { from = some (start y) (yearLength (leapAt y)) e f g i .0; to = some (start y) (yearLength (leapAt y)) e f g i .1; adds = some (start y) (yearLength (leapAt y)) e f g i .2 }
+        where
+          some : {a b : ℕ} (s l : ℕ) → a ≡ s → b ≡ s + l → a ≤ k → k < b → (1 ≤ k + 1 - s) × (k + 1 - s ≤ l) × (s + (k + 1 - s) ≡ k + 1)
+          some s l e f g i = (omega arith, omega arith, omega arith)
+
   -- the o-th day of a year
   pub ordinal-day : {y o : ℕ} → HeldYear y → 1 ≤ o → o ≤ yearLength (leapAt y) → OrdinalDay (labels c) (year y) o (day (start y + o - 1))
   ordinal-day {y} {o} h f t =

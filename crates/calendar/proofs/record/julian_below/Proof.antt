@@ -1,0 +1,54 @@
+-- `calendar::record::julian_below` meets its contract.
+-- Assumes nothing.
+use Prim.Native.Nat.{_-_}
+use borrow.Author.Needs.{needs}
+use Rattle.inner.specs.Laws.{raised-year-held}
+use Rattle.calendar.specs.Laws.{below-found, below-late, below-not}
+use Rattle.calendar.proofs.record.julian_below.Statement.{statement}
+use Rattle.calendar.proofs.record.julian_below.Tie as tie
+
+is-julian-leap-requires : tie.Need-is-julian-leap-requires
+is-julian-leap-requires c κs = search needs
+
+julian-start-requires : tie.Need-julian-start-requires
+julian-start-requires c κs = search needs
+
+reading-requires : tie.Need-reading-requires
+reading-requires c κs = search needs
+
+enum-told : tie.Need-enum-told
+enum-told c = search needs
+
+enum-known-s : tie.Need-enum-known-s
+enum-known-s c = search needs
+
+returns : tie.Need-returns
+returns c =
+    let n = c .before .before .before .before .before in
+    below-found (raised-year-held (n .before .before .before .fits .year .fits)) (n .before .before .is-julian-leap .ensures) (n .before .julian-start .ensures)
+    (rw (c .before .before .before .s .given .1) at (n .reading .ensures)) (c .if1 .taken)
+
+returns-2 : tie.Need-returns-2
+returns-2 c =
+    let n = c .before .before in
+    below-not (raised-year-held (n .before .before .before .fits .year .fits)) (n .before .before .is-julian-leap .ensures) (n .before .julian-start .ensures)
+    (rw (c .enum-told .given .1) at (n .reading .ensures))
+
+returns-3 : tie.Need-returns-3
+returns-3 c =
+    let n = c .before .before .before .before .before in
+    below-late (raised-year-held (n .before .before .before .fits .year .fits)) (n .before .before .is-julian-leap .ensures) (n .before .julian-start .ensures)
+    (rw (c .before .before .before .s .given .1) at (n .reading .ensures)) (c .if1 .left)
+
+pub julian-below-spec : {M : Type 1} → statement M
+julian-below-spec =
+    tie.close
+    (tie.spec
+    is-julian-leap-requires
+    julian-start-requires
+    reading-requires
+    enum-told
+    enum-known-s
+    returns
+    returns-2
+    returns-3)

@@ -1,0 +1,55 @@
+-- The calendars of the library, in the words of the day-by-day definition, and the record of a day.
+use mathlib.Core.Path.{_≡_}
+use mathlib.Core.Bool.{Bool, true, false}
+use lib.IntN.{ℤ}
+use Rattle.days.specs.DayByDay as D
+use Rattle.days.specs.DayByDay.{Label, label, Ordinal, DayOrdinal, Style, JulianStyle, GregorianStyle}
+use Rattle.calendar.specs.declared.Calendar.{Calendar}
+use Rattle.calendar.specs.declared.Calendar.the-variants.{Julian, Gregorian, Reforming}
+use Rattle.calendar.specs.declared.Date.{Date}
+
+-- which calendar of the definition is meant
+abbrev pub meant : Calendar → D.Calendar
+meant Julian = D.Julian
+meant Gregorian = D.Gregorian
+meant (Reforming r) = D.Reforming r
+
+-- the label of each day; which calendars are accepted, any other being made up; which labels are skipped
+abbrev pub labels : Calendar → ℤ → Label
+labels c = D.labels (meant c)
+
+abbrev pub Accepted : Calendar → Type 0
+Accepted c = D.Accepted (meant c)
+
+abbrev pub Skipped : Calendar → Label → Type 0
+Skipped c l = D.Skipped (meant c) l
+
+-- d is the record of day n: calendar, year, ordinal, month, day, day ordinal, day number
+pub record IsRecord (c : Calendar) (n : ℤ) (d : Date) : Type 0 where
+  pub calendar-is : d .calendar ≡ c
+  pub label-is : labels c n ≡ label (d .year) (d .month) (d .day)
+  pub ordinal-is : Ordinal (labels c) n (d .ordinal)
+  pub day-ordinal-is : DayOrdinal (labels c) n (d .«day_ordinal»)
+  pub day-is : d .jdn ≡ n
+
+-- a record is genuine if it is that of its day number in its accepted calendar; any other is made up
+pub record Genuine (d : Date) : Type 0 where
+  pub accepted : Accepted (d .calendar)
+  pub is-record : IsRecord (d .calendar) (d .jdn) d
+
+-- a calendar is reforming, or proleptic
+abbrev pub isReforming : Calendar → Bool
+isReforming Julian = false
+isReforming Gregorian = false
+isReforming (Reforming r) = true
+
+-- one kind of label is another
+abbrev pub sameStyle : Style → Style → Bool
+sameStyle JulianStyle JulianStyle = true
+sameStyle JulianStyle GregorianStyle = false
+sameStyle GregorianStyle JulianStyle = false
+sameStyle GregorianStyle GregorianStyle = true
+
+-- whether the label of a record is of this kind
+abbrev pub styleIs : Style → Date → Bool
+styleIs s d = sameStyle s (D.style (meant (d .calendar)) (d .jdn))

@@ -1,0 +1,473 @@
+-- From what the private functions say to the promises.
+-- Assumes nothing.
+use mathlib.Core.Path.{_≡_, refl, sym, _∙_, ap, ap₂, subst, subst₂}
+use mathlib.Core.Bool.{Bool, true, false}
+use mathlib.Core.Logic.{_⊎_, inl, inr, ⊎-elim}
+use Prim.Native.Nat.{ℕ, suc, _+_, _-_, _*_, _/_, _<_, _≤_, _^_}
+use native.Mathlib.Omega.{arith}
+use native.Mathlib.Numerals.{add-one}
+use lib.IntN.{ℤ, pos, sucℤ, predℤ}
+use mir.Syntax.{w32}
+use mir.Val.{SFits, toZ, ofZ}
+use Rattle.whole.specs.Tests.{lt-or-ge}
+use Rattle.whole.specs.Biased.{unbias}
+use Rattle.days.specs.DayByDay as D
+use Rattle.days.specs.DayByDay.{Label, label, OfYear, OfMonth, Place, Ordinal, DayOrdinal, YearLength, Borne, Is32Bit, monthLength}
+use Rattle.days.specs.Rising.{nth-within, days-one}
+use Rattle.days.specs.Held.{dayBias, yearBias, day, year, HeldDay, HeldYear}
+use Rattle.days.specs.Year.{yearLength, year-most}
+use Rattle.days.specs.Spans.{Stretch}
+use Rattle.days.specs.Starts.{Starts, Spot}
+use Rattle.days.specs.Julian as J
+use Rattle.days.specs.Gregorian as G
+use Rattle.days.specs.Range.{julian-year, gregorian-year}
+use Rattle.days.specs.Numbers.{There, number, daysBefore, before, few-before}
+use Rattle.days.specs.Months.{ordinal-within}
+use Rattle.days.specs.Steps.{month-some}
+use Rattle.days.specs.Reformations.{Outcome, Row, row-1, row-2, row-3, row-4, row-5}
+use Rattle.days.specs.Table.{accepts, accepts-only, fits-held, there-too, table-holds}
+use Rattle.whole.specs.Integers.{unbias-le}
+use Rattle.days.specs.Calendars.{skipped-nowhere}
+use Rattle.days.specs.Runs.{Runs, top, julian-runs, gregorian-runs, reforming-runs, firstDay, first-cases, first-julian, yearFirst, monthFirst, julianMonth, gregorianMonth, year-plain, month-plain, year-stretch, month-stretch, ordinal-at, day-ordinal-at, on-old, on-new, in-gap, on-none}
+use Rattle.inner.specs.Natural.{heldDay, heldYear, MonthDayAt, Lowers, within, beyond}
+use Rattle.inner.specs.Promise.{OrdinalOf, ordinal, no-ordinal}
+use Rattle.inner.specs.One.{in-year-ordinal}
+use Rattle.inner.specs.Laws.{held-day, held-year, in-year-valid, in-year-month, month-day-in, julian-alone, gregorian-alone, spot-of-year, raised-day-held}
+use Rattle.inner.specs.declared.DayNumber.{DayNumber}
+use Rattle.inner.specs.declared.DayNumber.the-variants as DayNumber′
+use Rattle.inner.specs.declared.DayOrdinal.the-variants as DayOrdinal′
+use Rattle.calendar.specs.declared.Calendar.{Calendar}
+use Rattle.calendar.specs.declared.Calendar.the-variants.{Julian, Gregorian, Reforming}
+use Rattle.calendar.specs.declared.Date.{Date}
+use Rattle.calendar.specs.declared.Reformed.the-variants as Reformed′
+use Rattle.calendar.specs.declared.Dated.{Dated}
+use Rattle.calendar.specs.declared.Dated.the-variants as Dated′
+use Rattle.calendar.specs.declared.Switch.the-variants as Switch′
+use Rattle.calendar.specs.declared.record.Spot as S
+use Rattle.calendar.specs.declared.record.Found.the-variants as Found′
+use Rattle.calendar.specs.declared.record.Read.the-variants as Read′
+use Rattle.calendar.specs.Calendars.{meant, labels, Accepted, IsRecord}
+use Rattle.calendar.specs.Rows.{refuses, passes}
+use Rattle.calendar.specs.Promise.{refused, refusedReformation, outcomeIs, Reforms, judged, Month, RecordOf, record-of, Given, ByLabel, OnLabel, on-label, ByOrdinal, OffYear, OnOrdinal, on-ordinal}
+use Rattle.calendar.specs.Natural.{SwitchIs, switches-at, no-calendar, YearSpan, InYear, At, LabelledAt, old, new, OnSpot, spot, plainRecord, SpotAt, ThereIn, Reads, reads-at, reads-none, ReadsBelow, below-at, below-none, Finds, finds-at, finds-gap, finds-none}
+
+-- ---- Where a calendar goes over
+pub switch-reforming : {r : ℤ} (x : ℕ) → unbias (2 ^ 31) x ≡ r → 784_368_640_634 ≤ heldDay x → heldDay x ≤ 786_514_249_530 → SwitchIs (Reforming r) (Switch′.At (heldDay x))
+switch-reforming x e h g = subst (λ (r : ℤ). SwitchIs (Reforming r) (Switch′.At (heldDay x))) (held-day x ∙ e) (switches-at (reforming-runs (heldDay x) (accepts (heldDay x) h g)))
+
+pub switch-none : {r : ℤ} (x : ℕ) → unbias (2 ^ 31) x ≡ r → ((784_368_640_634 ≤ heldDay x) × (heldDay x ≤ 786_514_249_530) → ⊥) → SwitchIs (Reforming r) Switch′.MadeUp
+switch-none x e n = subst (λ (r : ℤ). SwitchIs (Reforming r) Switch′.MadeUp) (held-day x ∙ e) (no-calendar not)
+  where
+    not : ¬ Accepted (Reforming (day (heldDay x)))
+    not (D.reforming-accepted a) = n (accepts-only (heldDay x) (omega arith) a)
+
+-- ---- A day in its reckoning
+module _ {leapAt : ℕ → Bool} {start : ℕ → ℕ} {k y m d o : ℕ} (a : At leapAt start k y m d o) where
+  pub at-number : number leapAt start y m d ≡ k
+  at-number = sum (start y) (daysBefore (leapAt y) m) (a .ordinal-is) (a .adds) (a .there .2)
+    where
+      sum : (s b : ℕ) → b + d ≡ o → s + o ≡ k + 1 → 1 ≤ d → s + b + d - 1 ≡ k
+      sum s b e f h = omega arith
+
+  pub at-from : 1 ≤ o
+  at-from = omega (arith, a .ordinal-is, a .there .2)
+
+  pub at-few : o ≤ 366
+  at-few =
+      let t : There leapAt y m d = a .there in
+      omega (arith, a .ordinal-is, ordinal-within (leapAt y) m (daysBefore (leapAt y) m) d (t .0) (t .1) (t .3) (before (leapAt y) m (t .0) (t .1)), year-most (leapAt y))
+
+-- its ordinal, month and day by arithmetic
+pub at-spot : {leapAt : ℕ → Bool} {start : ℕ → ℕ} {k y m d o : ℕ} → HeldYear y → Spot leapAt start k y o → MonthDayAt (leapAt y) o m d → At leapAt start k y m d o
+at-spot h p q =
+    let (v, f, t) = month-day-in (p .from) (p .to) q in
+    record { held = h; there = (v .0, v .1, f, t); ordinal-is = q .day-is; adds = p .adds }
+
+-- ---- A day in its calendar
+module _ (c : Calendar) {r : ℕ} (runs : Runs (meant c) r) {k y m d o : ℕ} where
+  pub labelled-is : LabelledAt r k y m d o → labels c (day k) ≡ label (year y) m d
+  labelled-is (old h a) = subst (λ (n : ℕ). labels c (day n) ≡ label (year y) m d) (at-number a) (on-old runs y m d refl (a .held) (a .there) (subst (λ (n : ℕ). n < r) (sym (at-number a)) h))
+  labelled-is (new h a) = subst (λ (n : ℕ). labels c (day n) ≡ label (year y) m d) (at-number a) (on-new runs y m d refl (a .held) (a .there) (subst (λ (n : ℕ). r ≤ n) (sym (at-number a)) h))
+
+  pub labelled-held : LabelledAt r k y m d o → HeldYear y
+  labelled-held (old h a) = a .held
+  labelled-held (new h a) = a .held
+
+  pub labelled-month : LabelledAt r k y m d o → Month m
+  labelled-month (old h a) = (a .there .0, a .there .1)
+  labelled-month (new h a) = (a .there .0, a .there .1)
+
+  -- its record
+  pub record-is : LabelledAt r k y m d o → {n z : ℤ} {i j : ℕ} → day k ≡ n → year y ≡ z → k + 1 - yearFirst r y ≡ i → k + 1 - monthFirst r y m ≡ j
+      → IsRecord c n (record { calendar = c; year = z; ordinal = i; month = m; day = d; «day_ordinal» = j; jdn = n })
+  record-is l {n} e f g h =
+      let v : Month m = labelled-month l in
+      record {
+        calendar-is = refl;
+        label-is = ap (labels c) (sym e) ∙ labelled-is l ∙ ap (λ (z : ℤ). label z m d) f;
+        ordinal-is = subst₂ (Ordinal (labels c)) e g (ordinal-at runs k y m d (labelled-held l) (labelled-is l));
+        day-ordinal-is = subst₂ (DayOrdinal (labels c)) e h (day-ordinal-at runs k y m d (labelled-held l) (labelled-is l) (v .0) (v .1));
+        day-is = refl;
+      }
+
+  -- where the year began in the same reckoning, from the switch on, the places are those of that reckoning
+  pub plain-ordinal : LabelledAt r k y m d o → (r ≤ k → r + o ≤ k + 1) → k + 1 - yearFirst r y ≡ o
+  plain-ordinal (old h a) p = ap (λ (n : ℕ). k + 1 - n) (first-julian r (J.start y) (G.start y) (first (a .adds) (at-from a))) ∙ rest (J.start y) (a .adds)
+    where
+      first : {s : ℕ} → s + o ≡ k + 1 → 1 ≤ o → s < r
+      first e f = omega arith
+
+      rest : (s : ℕ) → s + o ≡ k + 1 → k + 1 - s ≡ o
+      rest s e = omega arith
+  plain-ordinal (new h a) p = ap (λ (n : ℕ). k + 1 - n) (year-plain runs y (a .held) (first (a .adds) (p h))) ∙ rest (G.start y) (a .adds)
+    where
+      first : {s : ℕ} → s + o ≡ k + 1 → r + o ≤ k + 1 → r ≤ s
+      first e f = omega arith
+
+      rest : (s : ℕ) → s + o ≡ k + 1 → k + 1 - s ≡ o
+      rest s e = omega arith
+
+  pub plain-day-ordinal : LabelledAt r k y m d o → (r ≤ k → r + o ≤ k + 1) → k + 1 - monthFirst r y m ≡ d
+  plain-day-ordinal (old h a) p =
+      ap (λ (n : ℕ). k + 1 - n) (first-julian r (julianMonth y m) (gregorianMonth y m) (first (J.start y) (daysBefore (J.leapAt y) m) (a .adds) (a .ordinal-is) (a .there .2))) ∙ rest (J.start y) (daysBefore (J.leapAt y) m) (a .adds) (a .ordinal-is)
+    where
+      first : (s b : ℕ) → s + o ≡ k + 1 → b + d ≡ o → 1 ≤ d → s + b < r
+      first s b e f g = omega arith
+
+      rest : (s b : ℕ) → s + o ≡ k + 1 → b + d ≡ o → k + 1 - (s + b) ≡ d
+      rest s b e f = omega arith
+  plain-day-ordinal (new h a) p =
+      ap (λ (n : ℕ). k + 1 - n) (month-plain runs y (a .held) m (a .there .0) (a .there .1) (first (G.start y) (daysBefore (G.leapAt y) m) (a .adds) (p h))) ∙ rest (G.start y) (daysBefore (G.leapAt y) m) (a .adds) (a .ordinal-is)
+    where
+      first : (s b : ℕ) → s + o ≡ k + 1 → r + o ≤ k + 1 → r ≤ s + b
+      first s b e f = omega arith
+
+      rest : (s b : ℕ) → s + o ≡ k + 1 → b + d ≡ o → k + 1 - (s + b) ≡ d
+      rest s b e f = omega arith
+
+-- the two first days of a year are close, and so no place is large
+close : (y : ℕ) → y < 4_294_967_648 → G.start y ≤ J.start y + 30_000_000
+close y h = sum (J.start y) ((y + 399) / 400) ((y + 99) / 100) (omega arith) (omega arith)
+  where
+    sum : (a c b : ℕ) → c ≤ 10_737_422 → b ≤ 42_949_678 → a + c + 16_106_132 - b ≤ a + 30_000_000
+    sum a c b h g = omega arith
+
+-- what a place in a reformed year asks of the machine
+module _ (r j g k d : ℕ) (a : g + d ≡ k + 1) (f : d ≤ 366) (n : g ≤ j + 30_000_366) (h : r ≤ k) where
+  pub place-first : firstDay r j g ≤ k + 1
+  place-first = first-cases r j g (λ u e. omega arith) (λ u v e. omega arith) (λ u v e. omega arith)
+
+  pub place-few : k + 1 - firstDay r j g < 2 ^ 32
+  place-few = first-cases r j g (λ u e. omega arith) (λ u v e. omega arith) (λ u v e. omega arith)
+
+module _ {k y m d o : ℕ} (a : At G.leapAt G.start k y m d o) where
+  pub year-begins : G.start y ≡ k + 1 - o
+  year-begins = rest (G.start y) (a .adds)
+    where
+      rest : (s : ℕ) → s + o ≡ k + 1 → s ≡ k + 1 - o
+      rest s e = omega arith
+
+  pub month-begins : gregorianMonth y m ≡ k + 1 - d
+  month-begins = rest (G.start y) (daysBefore (G.leapAt y) m) (a .adds) (a .ordinal-is)
+    where
+      rest : (s b : ℕ) → s + o ≡ k + 1 → b + d ≡ o → s + b ≡ k + 1 - d
+      rest s b e f = omega arith
+
+  pub month-adds : gregorianMonth y m + d ≡ k + 1
+  month-adds = rest (G.start y) (daysBefore (G.leapAt y) m) (a .adds) (a .ordinal-is)
+    where
+      rest : (s b : ℕ) → s + o ≡ k + 1 → b + d ≡ o → s + b + d ≡ k + 1
+      rest s b e f = omega arith
+
+  pub day-in-month : d ≤ 366
+  day-in-month = omega (arith, at-few a, a .ordinal-is)
+
+  pub year-close : G.start y ≤ J.start y + 30_000_366
+  year-close = omega (arith, close y (a .held .to))
+
+  pub month-close : gregorianMonth y m ≤ julianMonth y m + 30_000_366
+  month-close = sum (J.start y) (G.start y) (daysBefore (J.leapAt y) m) (daysBefore (G.leapAt y) m) (close y (a .held .to)) (few-before (G.leapAt y) m (a .there .0) (a .there .1))
+    where
+      sum : (a b d e : ℕ) → b ≤ a + 30_000_000 → e ≤ 366 → b + e ≤ a + d + 30_000_366
+      sum a b d e h k = omega arith
+
+-- a Gregorian day is labelled so
+pub labelled-new : {r k y m d o : ℕ} → LabelledAt r k y m d o → r ≤ k → At G.leapAt G.start k y m d o
+labelled-new {r} {k} (old h a) g = absurd (never h g)
+  where
+    never : k < r → r ≤ k → ⊥
+    never h g = omega arith
+labelled-new (new h a) g = a
+
+-- ---- The day of a label
+module _ (leapAt : ℕ → Bool) (start : ℕ → ℕ) (y m d : ℕ) {b : Bool} {t : ℕ} (h : HeldYear (heldYear y)) (e : b ≡ leapAt (heldYear y)) (f : t ≡ start (heldYear y)) where
+  read-there : ThereIn b m d → There leapAt (heldYear y) m d
+  read-there v = (v .0, v .1, v .2, subst (λ (b : Bool). d ≤ monthLength b m) e (v .3))
+
+  read-at : {o : ℕ} → ThereIn b m d → daysBefore b m + d ≡ o → At leapAt start (t + o - 1) (heldYear y) m d o
+  read-at {o} v q = record {
+    held = h;
+    there = read-there v;
+    ordinal-is = ap (λ (b : Bool). daysBefore b m + d) (sym e) ∙ q;
+    adds = ap (λ (s : ℕ). s + o) (sym f) ∙ sum t (some (daysBefore b m) q (v .2));
+  }
+    where
+      some : (i : ℕ) → i + d ≡ o → 1 ≤ d → 1 ≤ o
+      some i u w = omega arith
+
+      sum : (s : ℕ) → 1 ≤ o → s + o ≡ s + o - 1 + 1
+      sum s u = omega arith
+
+  read-none : ¬ ThereIn b m d → ¬ There leapAt (heldYear y) m d
+  read-none n t = n (t .0, t .1, t .2, subst (λ (b : Bool). d ≤ monthLength b m) (sym e) (t .3))
+
+module _ {r y m d t : ℕ} {b : Bool} (h : HeldYear (heldYear y)) where
+  -- in the Julian reckoning
+  pub below-found : {s : S.Spot} → b ≡ J.leapAt (heldYear y) → t ≡ J.start (heldYear y) → Reads b t y m d (Read′.At s) → s .held < r → ReadsBelow r y m d (Read′.At s)
+  below-found e f (reads-at v q) g = below-at (old g (read-at J.leapAt J.start y m d h e f v q))
+
+  pub below-late : {s : S.Spot} → b ≡ J.leapAt (heldYear y) → t ≡ J.start (heldYear y) → Reads b t y m d (Read′.At s) → r ≤ s .held → ReadsBelow r y m d Read′.Nothing
+  below-late e f (reads-at v q) g = below-none (λ i. subst (λ (n : ℕ). r ≤ n) (sym (at-number (read-at J.leapAt J.start y m d h e f v q))) g)
+
+  pub below-not : b ≡ J.leapAt (heldYear y) → t ≡ J.start (heldYear y) → Reads b t y m d Read′.Nothing → ReadsBelow r y m d Read′.Nothing
+  below-not e f (reads-none n) = below-none (λ i. absurd (read-none J.leapAt J.start y m d h e f n i))
+
+  -- in the calendar
+  pub new-found : {s : S.Spot} → b ≡ G.leapAt (heldYear y) → t ≡ G.start (heldYear y) → Reads b t y m d (Read′.At s) → r ≤ s .held → Finds r y m d (Found′.At s)
+  new-found e f (reads-at v q) g = finds-at (new g (read-at G.leapAt G.start y m d h e f v q))
+
+  pub gap-found : {s : S.Spot} → b ≡ G.leapAt (heldYear y) → t ≡ G.start (heldYear y) → Reads b t y m d (Read′.At s) → s .held < r → ReadsBelow r y m d Read′.Nothing → Finds r y m d Found′.Skipped
+  gap-found e f (reads-at v q) g (below-none n) =
+      let i : There G.leapAt (heldYear y) m d = read-there G.leapAt G.start y m d h e f v in
+      finds-gap i (n (there-too (heldYear y) m d i)) (subst (λ (n : ℕ). n < r) (sym (at-number (read-at G.leapAt G.start y m d h e f v q))) g)
+
+  pub none-found : b ≡ G.leapAt (heldYear y) → t ≡ G.start (heldYear y) → Reads b t y m d Read′.Nothing → ReadsBelow r y m d Read′.Nothing → Finds r y m d Found′.Nowhere
+  none-found e f (reads-none n) (below-none l) = finds-none (read-none G.leapAt G.start y m d h e f n) l
+
+pub old-found : {r y m d : ℕ} {s : S.Spot} → ReadsBelow r y m d (Read′.At s) → Finds r y m d (Found′.At s)
+old-found (below-at l) = finds-at l
+
+-- ---- The rows of a label
+module _ (c : Calendar) {r : ℕ} (runs : Runs (meant c) r) {y m d : ℕ} {z : ℤ} (h : HeldYear (heldYear y)) (e : year (heldYear y) ≡ z) where
+  pub found-spot : {s : S.Spot} → Finds r y m d (Found′.At s) → OnSpot r s
+  found-spot (finds-at l) = l
+
+  pub found-row : {s : S.Spot} {a : Dated} → Finds r y m d (Found′.At s) → Given c (year (heldYear (s .year))) (day (s .held)) a → ByLabel c z m d a
+  found-row {a = a} (finds-at {k} l) g =
+      let f : labels c (day k) ≡ label z m d = labelled-is c runs l ∙ ap (λ (z : ℤ). label z m d) e in
+      passes (λ n. n .0 (day k, f)) (passes (λ s. skipped-nowhere (runs .accepted) s (day k, f)) (on-label f (subst (λ (z : ℤ). Given c z (day k) a) e g)))
+
+  pub skipped-row : Finds r y m d Found′.Skipped → ByLabel c z m d (refused 5 (pos d))
+  skipped-row (finds-gap t u v) = let s = in-gap runs (heldYear y) m d e h t u v in passes (λ n. n .1 s) (refuses s)
+
+  pub missing-row : Finds r y m d Found′.Nowhere → ByLabel c z m d (refused 4 (pos d))
+  missing-row (finds-none n l) = refuses (on-none runs (heldYear y) m d e h n l)
+
+-- ---- A day that is found, in 32 bits
+pub given-held : (c : Calendar) {k : ℕ} {n z : ℤ} {d : Date} → Lowers k (DayNumber′.Day n) → IsRecord c n d → Given c z (day k) (Dated′.Date d)
+given-held c (within w) i = passes (fits-held w) (record-of i)
+
+pub lowered-day : {k : ℕ} {n : ℤ} → Lowers k (DayNumber′.Day n) → day k ≡ n
+lowered-day (within w) = refl
+
+pub given-far : (c : Calendar) {k : ℕ} {z : ℤ} → Lowers k DayNumber′.Outside32 → Given c z (day k) (refused 7 z)
+given-far c (beyond b) = refuses b
+
+pub given-none : {k : ℕ} {d : DayNumber} → d ≡ DayNumber′.Nothing → Lowers k d → ⊥
+given-none e (within w) = let z : _≡_ {A = ℕ} 0 1 = cc in omega arith
+given-none e (beyond b) = let z : _≡_ {A = ℕ} 0 1 = cc in omega arith
+
+-- ---- The rows of an ordinal
+next-start : {leapAt : ℕ → Bool} {start : ℕ → ℕ} {reckoning : D.Reckoning} → Starts reckoning leapAt start → (y : ℕ) → start (y + 1) ≡ start y + yearLength (leapAt y)
+next-start {start = start} s y = ap start (add-one y) ∙ s .start-next y
+
+-- the first days of a year and of the next, as they are computed
+pub year-span-is : (r y : ℕ) {a b l n : ℕ} → y < 4_294_967_648 → a ≡ J.start y → b ≡ G.start y → l ≡ yearLength (J.leapAt y) → n ≡ yearLength (G.leapAt y)
+    → {i j : ℕ} → i ≡ firstDay r a b → j ≡ firstDay r (a + l) (b + n) → YearSpan r y i j
+year-span-is r y {a} {b} {l} {n} h e f g k p q = record {
+  first-is = p ∙ ap₂ (firstDay r) e f;
+  past-is = q ∙ ap₂ (firstDay r) (ap₂ _+_ e g ∙ sym (next-start J.starts y)) (ap₂ _+_ f k ∙ sym (next-start G.starts y));
+  first-room = rw p (room a b (omega arith) (omega arith));
+  past-room = rw q (room (a + l) (b + n) (omega (arith, year-most (J.leapAt y))) (omega (arith, year-most (G.leapAt y))));
+}
+  where
+    room : (j g : ℕ) → j < top → g < top → firstDay r j g < top
+    room j g u v = first-cases r j g (λ x e. omega arith) (λ x z e. omega arith) (λ x z e. omega arith)
+
+module _ (c : Calendar) {r : ℕ} (runs : Runs (meant c) r) (y o : ℕ) {a b : ℕ} {z : ℤ} (h : HeldYear (heldYear y)) (e : year (heldYear y) ≡ z) (s : YearSpan r (heldYear y) a b) where
+  abbrev days-of : Stretch (labels c) (OfYear (year (heldYear y))) dayBias (yearFirst r (heldYear y)) (yearFirst r (heldYear y + 1))
+  days-of = year-stretch runs (heldYear y) h
+
+  off-by : ((o ≡ 0) ⊎ (b < a + o)) → ByOrdinal c z o (refused 6 (pos o))
+  off-by n = subst (λ (z : ℤ). ByOrdinal c z o (refused 6 (pos o))) e
+      (refuses (yearFirst r (heldYear y + 1) - yearFirst r (heldYear y), days-of .days, ⊎-elim inl (λ i. inr (omega (arith, s .first-is, s .past-is, days-of .ordered))) n))
+
+  pub off-low : o < 1 → ByOrdinal c z o (refused 6 (pos o))
+  off-low n = off-by (inl (omega arith))
+
+  pub off-high : b < a + o → ByOrdinal c z o (refused 6 (pos o))
+  off-high n = off-by (inr n)
+
+  module _ (u : 1 ≤ o) (v : a + o ≤ b) where
+    pub in-year-at : InYear c r y (a + o - 1)
+    in-year-at = record {
+      runs = runs;
+      year-held = h;
+      of-year = days-of .inside (a + o - 1) (omega (arith, s .first-is)) (omega (arith, s .past-is));
+      room = omega (arith, s .past-room);
+    }
+
+    pub ordinal-row : {t : Dated} → Given c (year (heldYear y)) (day (a + o - 1)) t → ByOrdinal c z o t
+    ordinal-row {t} q = subst (λ (z : ℤ). ByOrdinal c z o t) e (passes not-off (on-ordinal (in-year-at .of-year) place q))
+      where
+        place : Place (λ d. OfYear (year (heldYear y)) (labels c d)) (day (a + o - 1)) o
+        place =
+            let w : a + o - 1 + 1 - yearFirst r (heldYear y) ≡ o = omega (arith, s .first-is) in
+            subst (Place (λ d. OfYear (year (heldYear y)) (labels c d)) (day (a + o - 1))) w (days-of .here (a + o - 1) (in-year-at .of-year) .2)
+
+        not-off : ¬ OffYear c (year (heldYear y)) o
+        not-off (t, i, n) =
+            let w : t ≡ yearFirst r (heldYear y + 1) - yearFirst r (heldYear y) = days-one i (days-of .days) in
+            ⊎-elim (λ q. never-low q) (λ q. never-high t w q) n
+          where
+            never-low : o ≡ 0 → ⊥
+            never-low q = omega arith
+
+            never-high : (t : ℕ) → t ≡ yearFirst r (heldYear y + 1) - yearFirst r (heldYear y) → t < o → ⊥
+            never-high t w q = omega (arith, s .first-is, s .past-is)
+
+-- the spot of a day of a year
+module _ (c : Calendar) {r y k : ℕ} (p : InYear c r y k) where
+  pub old-ordinal : k < r → Spot J.leapAt J.start k (heldYear y) (k + 1 - J.start (heldYear y))
+  old-ordinal n = spot-of-year julian-alone (p .year-held) (subst (OfYear (year (heldYear y))) (p .runs .below k n (p .room) .0) (p .of-year))
+
+  pub new-ordinal : r ≤ k → Spot G.leapAt G.start k (heldYear y) (k + 1 - G.start (heldYear y))
+  new-ordinal n = spot-of-year gregorian-alone (p .year-held) (subst (OfYear (year (heldYear y))) (p .runs .above k n (p .room) .0) (p .of-year))
+
+-- what an ordinal in its own reckoning asks of the machine
+pub spot-fits : {leapAt : ℕ → Bool} {start : ℕ → ℕ} {k y o : ℕ} → Spot leapAt start k y o → (o < 2 ^ 32) × (start y ≤ k + 1)
+spot-fits {leapAt} {start} {k} {y} {o} p = (omega (arith, p .to, year-most (leapAt y)), room (start y) (p .adds))
+  where
+    room : (s : ℕ) → s + o ≡ k + 1 → s ≤ k + 1
+    room s e = omega arith
+
+-- a spot that was made of an ordinal is on its day
+pub spot-made : {leapAt : ℕ → Bool} {start : ℕ → ℕ} {k y o : ℕ} {b : Bool} {s : S.Spot} → HeldYear (heldYear y) → Spot leapAt start k (heldYear y) o → b ≡ leapAt (heldYear y) → SpotAt k y o b s
+    → At leapAt start k (heldYear y) (s .month) (s .day) o
+spot-made {leapAt} {o = o} {s = s} h p e q = at-spot h p (subst (λ (b : Bool). MonthDayAt b o (s .month) (s .day)) e (q .month-day))
+
+pub spot-old : {r k y o : ℕ} {b : Bool} {s : S.Spot} → HeldYear (heldYear y) → k < r → Spot J.leapAt J.start k (heldYear y) o → b ≡ J.leapAt (heldYear y) → SpotAt k y o b s → OnSpot r s
+spot-old {r} h g p e q = subst (OnSpot r) (sym (q .is)) (old g (spot-made h p e q))
+
+pub spot-new : {r k y o : ℕ} {b : Bool} {s : S.Spot} → HeldYear (heldYear y) → r ≤ k → Spot G.leapAt G.start k (heldYear y) o → b ≡ G.leapAt (heldYear y) → SpotAt k y o b s → OnSpot r s
+spot-new {r} h g p e q = subst (OnSpot r) (sym (q .is)) (new g (spot-made h p e q))
+
+-- ---- What a switch says
+pub switch-runs : (c : Calendar) {r : ℕ} → SwitchIs c (Switch′.At r) → Runs (meant c) r
+switch-runs c (switches-at p) = p
+
+pub switch-made-up : (c : Calendar) → SwitchIs c Switch′.MadeUp → ¬ Accepted c
+switch-made-up c (no-calendar n) = n
+
+-- ---- A reading from the ordinal of a month and a day
+pub ordinal-some : {leap : Bool} {m d o : ℕ} → OrdinalOf leap m d (DayOrdinal′.At o) → 1 ≤ o
+ordinal-some (ordinal p) = p .from
+
+pub ordinal-sum : {leap : Bool} {m d o : ℕ} → OrdinalOf leap m d (DayOrdinal′.At o) → ThereIn leap m d × (daysBefore leap m + d ≡ o)
+ordinal-sum {leap} {m} {d} (ordinal p) =
+    let (v, f, t) = in-year-valid leap p in
+    ((v .0, v .1, f, t), in-year-ordinal (in-year-month leap m d v f t) p)
+
+pub reading-at : {leap : Bool} {t y m d o : ℕ} → OrdinalOf leap m d (DayOrdinal′.At o) → Reads leap t y m d (Read′.At (spot (t + o - 1) y o m d))
+reading-at p = let (v, e) = ordinal-sum p in reads-at v e
+
+pub reading-none : {leap : Bool} {t y m d : ℕ} → OrdinalOf leap m d DayOrdinal′.Nothing → Reads leap t y m d Read′.Nothing
+reading-none {leap} {m = m} {d} (no-ordinal n) = reads-none (λ v. n (daysBefore leap m + d) (in-year-month leap m d (v .0, v .1) (v .2) (v .3)))
+
+-- the first day of a month in the Julian reckoning
+pub julian-month-is : {leap : Bool} (y : ℕ) {m o t : ℕ} → leap ≡ J.leapAt y → t ≡ J.start y → OrdinalOf leap m 1 (DayOrdinal′.At o) → t + o - 1 ≡ julianMonth y m
+julian-month-is {leap} y {m} {o} {t} e f p = sum (daysBefore leap m) (ordinal-sum p .1) ∙ ap₂ _+_ f (ap (λ (b : Bool). daysBefore b m) e)
+  where
+    sum : (b : ℕ) → b + 1 ≡ o → t + o - 1 ≡ t + b
+    sum b q = omega arith
+
+pub month-has-first : {leap : Bool} {m : ℕ} → Month m → OrdinalOf leap m 1 DayOrdinal′.Nothing → ⊥
+month-has-first {leap} {m} v (no-ordinal n) = n (daysBefore leap m + 1) (in-year-month leap m 1 v (omega arith) (month-some leap m (v .0) (v .1)))
+
+-- ---- Reformations
+module _ {r : ℤ} (x : ℕ) (e : unbias (2 ^ 31) x ≡ r) (h : x < 2 ^ 32) where
+  reforms-row : {o : Outcome} → Row (day (heldDay x)) o → Reforms r (outcomeIs r o)
+  reforms-row {o} w = subst (λ (r : ℤ). Reforms r (outcomeIs r o)) (held-day x ∙ e) (judged (table-holds (day (heldDay x)) (fits-held (raised-day-held h)) o .0 w))
+
+  pub reforms-1 : heldDay x < 782_219_326_295 → Reforms r (refusedReformation 1 r)
+  reforms-1 g = let q : heldDay x ≡ 782_219_326_294 = omega arith in reforms-row (row-1 (ap day q))
+
+  pub reforms-2 : 782_219_326_295 ≤ heldDay x → heldDay x < 782_219_370_428 → Reforms r (refusedReformation 2 r)
+  reforms-2 f g = reforms-row (row-2 (unbias-le dayBias 782_219_326_295 (heldDay x) f) (unbias-le dayBias (heldDay x) 782_219_370_427 (omega arith)))
+
+  pub reforms-3 : 782_219_370_428 ≤ heldDay x → heldDay x < 784_368_640_634 → Reforms r (refusedReformation 1 r)
+  reforms-3 f g = reforms-row (row-3 (unbias-le dayBias 782_219_370_428 (heldDay x) f) (unbias-le dayBias (heldDay x) 784_368_640_633 (omega arith)))
+
+  pub reforms-4 : 784_368_640_634 ≤ heldDay x → heldDay x ≤ 786_514_249_530 → Reforms r (Reformed′.Calendar (Reforming r))
+  reforms-4 f g = reforms-row (row-4 (unbias-le dayBias 784_368_640_634 (heldDay x) f) (unbias-le dayBias (heldDay x) 786_514_249_530 g))
+
+  pub reforms-5 : 786_514_249_530 < heldDay x → Reforms r (refusedReformation 2 r)
+  reforms-5 f = reforms-row (row-5 (unbias-le dayBias 786_514_249_531 (heldDay x) f) (unbias-le dayBias (heldDay x) 786_514_293_589 (omega arith)))
+
+-- ---- The record of a spot
+pub labelled-room : {r k y m d o : ℕ} → LabelledAt r k y m d o → (k < 2_000_000_000_000) × (1 ≤ o) × (o ≤ 366) × (o ≤ k + 1) × (d ≤ k + 1)
+labelled-room {k = k} {y} {d = d} {o} (old h a) =
+    let n : o ≤ 366 = at-few a in
+    (omega (arith, a .adds, a .held .to), at-from a, n, omega (arith, a .adds), omega (arith, a .adds, a .ordinal-is))
+labelled-room {k = k} {y} {d = d} {o} (new h a) =
+    let n : o ≤ 366 = at-few a in
+    (room (G.start y) (few y (a .held .to)) (a .adds), at-from a, n, part (G.start y) (a .adds), omega (arith, part (G.start y) (a .adds), a .ordinal-is))
+  where
+    few : (y : ℕ) → y < 4_294_967_648 → G.start y < 1_900_000_000_000
+    few y h = sum (365 * y) ((y + 3) / 4) ((y + 399) / 400) ((y + 99) / 100) (omega arith) (omega arith) (omega arith)
+      where
+        sum : (p q s t : ℕ) → p < 1_700_000_000_000 → q < 2_000_000_000 → s < 2_000_000_000 → p + q + s + 16_106_132 - t < 1_900_000_000_000
+        sum p q s t a b c = omega arith
+
+    room : (s : ℕ) → s < 1_900_000_000_000 → s + o ≡ k + 1 → k < 2_000_000_000_000
+    room s u e = omega (arith, at-few a)
+
+    part : (s : ℕ) → s + o ≡ k + 1 → o ≤ k + 1
+    part s e = omega arith
+
+module _ (c : Calendar) {r : ℕ} (runs : Runs (meant c) r) (s : S.Spot) {n : ℤ} (l : OnSpot r s) (e : day (s .held) ≡ n) where
+  pub record-plain : (r ≤ s .held → r + s .ordinal ≤ s .held + 1) → IsRecord c n (plainRecord c s n)
+  record-plain h = record-is c runs l e refl (plain-ordinal c runs l h) (plain-day-ordinal c runs l h)
+
+  pub record-reform : {a b : ℕ} {z : ℤ} → r ≤ s .held → year (heldYear (s .year)) ≡ z → a ≡ firstDay r (J.start (heldYear (s .year))) (s .held + 1 - s .ordinal)
+      → b ≡ firstDay r (julianMonth (heldYear (s .year)) (s .month)) (s .held + 1 - s .day)
+      → IsRecord c n (record { calendar = c; year = z; ordinal = s .held + 1 - a; month = s .month; day = s .day; «day_ordinal» = s .held + 1 - b; jdn = n })
+  record-reform h f g i =
+      let a = labelled-new l h in
+      record-is c runs l e f
+      (ap (λ (x : ℕ). s .held + 1 - x) (sym (g ∙ ap (firstDay r (J.start (heldYear (s .year)))) (sym (year-begins a)))))
+      (ap (λ (x : ℕ). s .held + 1 - x) (sym (i ∙ ap (firstDay r (julianMonth (heldYear (s .year)) (s .month))) (sym (month-begins a)))))
+
+-- what its places ask of the machine
+module _ {r : ℕ} (s : S.Spot) {a : ℕ} (l : OnSpot r s) (h : r ≤ s .held) where
+  pub reform-year-room : a ≡ firstDay r (J.start (heldYear (s .year))) (s .held + 1 - s .ordinal) → (a ≤ s .held + 1) × (s .held + 1 - a < 2 ^ 32)
+  reform-year-room e =
+      let p = labelled-new l h in
+      let f = e ∙ ap (firstDay r (J.start (heldYear (s .year)))) (sym (year-begins p)) in
+      rw f (
+        place-first r (J.start (heldYear (s .year))) (G.start (heldYear (s .year))) (s .held) (s .ordinal) (p .adds) (at-few p) (year-close p) h,
+        place-few r (J.start (heldYear (s .year))) (G.start (heldYear (s .year))) (s .held) (s .ordinal) (p .adds) (at-few p) (year-close p) h,
+      )
+
+  pub reform-month-room : a ≡ firstDay r (julianMonth (heldYear (s .year)) (s .month)) (s .held + 1 - s .day) → (a ≤ s .held + 1) × (s .held + 1 - a < 2 ^ 32)
+  reform-month-room e =
+      let p = labelled-new l h in
+      let f = e ∙ ap (firstDay r (julianMonth (heldYear (s .year)) (s .month))) (sym (month-begins p)) in
+      rw f (
+        place-first r (julianMonth (heldYear (s .year)) (s .month)) (gregorianMonth (heldYear (s .year)) (s .month)) (s .held) (s .day) (month-adds p) (day-in-month p) (month-close p) h,
+        place-few r (julianMonth (heldYear (s .year)) (s .month)) (gregorianMonth (heldYear (s .year)) (s .month)) (s .held) (s .day) (month-adds p) (day-in-month p) (month-close p) h,
+      )
+
+-- what is given of a spot is given of its day and year
+pub given-spot : (c : Calendar) {k y o : ℕ} {b : Bool} {s : S.Spot} {a : Dated} → SpotAt k y o b s → Given c (year (heldYear (s .year))) (day (s .held)) a → Given c (year (heldYear y)) (day k) a
+given-spot c {a = a} p g = subst (λ (s : S.Spot). Given c (year (heldYear (s .year))) (day (s .held)) a) (p .is) g

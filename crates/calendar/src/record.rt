@@ -1,0 +1,263 @@
+// The record of a day, and the day of a label: arithmetic on days and years that are held as naturals.
+
+ghost use mathlib.Core.Path.{_≡_};
+ghost use Prim.Native.Nat.{_≤_, _<_};
+ghost use Rattle.days.specs.Held.{day};
+ghost use Rattle.days.specs.Held as Held;
+ghost use Rattle.days.specs.Runs.{Runs, julianMonth};
+ghost use Rattle.inner.specs.Natural.{heldYear, MonthDayAt};
+ghost use Rattle.calendar.specs.Calendars.{meant, IsRecord};
+ghost use Rattle.calendar.specs.Promise.{Month, Given, ByLabel, ByOrdinal};
+ghost use Rattle.calendar.specs.Natural.{SpotAt, OnSpot, Finds, Reads, ReadsBelow, InYear, plainRecord};
+use crate::Calendar;
+use crate::Date;
+use crate::Dated;
+use inner::DayNumber;
+use inner::DayOrdinal;
+
+// A held day, with its raised year, and the ordinal, the month and the day of the month that it has in its own reckoning.
+pub struct Spot {
+    pub held: u64,
+    pub year: u32,
+    pub ordinal: u32,
+    pub month: u32,
+    pub day: u32,
+}
+
+// ---- From a day to its record
+
+pub fn on_day(calendar: Calendar, switch: u64, jdn: i32) -> Date
+    requires { ⌜ Runs (meant calendar) switch ⌝ }
+    ensures { λ d. ⌜ IsRecord calendar jdn d ⌝ }
+{
+    let x = whole::raised(jdn);
+    let held = x as u64 + 782_219_326_294;
+    if held < switch {
+        let old = inner::julian_place(x);
+        let s = spot_at(held, old.year, old.ordinal, inner::is_julian_leap(old.year));
+        return record_of(calendar, switch, s, jdn);
+    }
+    let new = inner::gregorian_place(x);
+    let s = spot_at(
+        held,
+        new.year,
+        new.ordinal,
+        inner::is_gregorian_leap(new.year),
+    );
+    record_of(calendar, switch, s, jdn)
+}
+
+// The month and the day of the month from the ordinal.
+fn spot_at(held: u64, year: u32, ordinal: u32, leap: bool) -> Spot
+    requires { ⌜ 1 ≤ ordinal ⌝ }
+    ensures { λ s. ⌜ SpotAt held year ordinal leap s ⌝ }
+{
+    let at = inner::month_day(leap, ordinal - 1);
+    Spot {
+        held: held,
+        year: year,
+        ordinal: ordinal,
+        month: at.month,
+        day: at.day,
+    }
+}
+
+// A Julian day has its places in the Julian year, and so has a Gregorian day in a year that begins from the switch on.
+fn record_of(calendar: Calendar, switch: u64, s: Spot, jdn: i32) -> Date
+    requires { ⌜ Runs (meant calendar) switch × OnSpot switch s × (day (s .held) ≡ jdn) ⌝ }
+    ensures { λ d. ⌜ IsRecord calendar jdn d ⌝ }
+{
+    if s.held < switch {
+        return plain_record(calendar, s, jdn);
+    }
+    if switch + s.ordinal as u64 <= s.held + 1 {
+        return plain_record(calendar, s, jdn);
+    }
+    reform_record(calendar, switch, s, jdn)
+}
+
+fn plain_record(calendar: Calendar, s: Spot, jdn: i32) -> Date
+    ensures { λ d. ⌜ d ≡ plainRecord calendar s jdn ⌝ }
+{
+    Date {
+        calendar: calendar,
+        year: whole::lowered(s.year),
+        ordinal: s.ordinal,
+        month: s.month,
+        day: s.day,
+        day_ordinal: s.day,
+        jdn: jdn,
+    }
+}
+
+// A Gregorian day of a year that began before the switch: its places count the Julian days of that year and month too.
+fn reform_record(calendar: Calendar, switch: u64, s: Spot, jdn: i32) -> Date
+    requires { ⌜ Runs (meant calendar) switch × OnSpot switch s × (day (s .held) ≡ jdn) × (switch ≤ s .held) ⌝ }
+    ensures { λ d. ⌜ IsRecord calendar jdn d ⌝ }
+{
+    let past = s.held + 1;
+    let year_first = crate::first_day(switch, inner::julian_start(s.year), past - s.ordinal as u64);
+    let month_first = crate::first_day(switch, julian_month(s.year, s.month), past - s.day as u64);
+    Date {
+        calendar: calendar,
+        year: whole::lowered(s.year),
+        ordinal: (past - year_first) as u32,
+        month: s.month,
+        day: s.day,
+        day_ordinal: (past - month_first) as u32,
+        jdn: jdn,
+    }
+}
+
+// The first day of a month in the Julian reckoning.
+fn julian_month(year: u32, month: u32) -> u64
+    requires { ⌜ Month month ⌝ }
+    ensures { λ r. ⌜ r ≡ julianMonth (heldYear year) month ⌝ }
+{
+    match inner::md2ordinal(inner::is_julian_leap(year), month, 1) {
+        DayOrdinal::At(ordinal) => inner::julian_start(year) + ordinal as u64 - 1,
+        DayOrdinal::Nothing => 0,
+    }
+}
+
+// ---- From a label to its day
+
+pub enum Found {
+    At(Spot),
+    Skipped,
+    Nowhere,
+}
+
+pub fn on_label(calendar: Calendar, switch: u64, year: i32, month: u32, day: u32) -> Dated
+    requires { ⌜ Runs (meant calendar) switch × Month month ⌝ }
+    ensures { λ d. ⌜ ByLabel calendar year month day d ⌝ }
+{
+    match find(switch, whole::raised(year), month, day) {
+        Found::At(s) => given(calendar, switch, s),
+        Found::Skipped => crate::refused_count(5, day),
+        Found::Nowhere => crate::refused_count(4, day),
+    }
+}
+
+// A label is on its Gregorian day where that is not before the switch, and on its Julian day where that is before it.
+fn find(switch: u64, year: u32, month: u32, day: u32) -> Found
+    requires { ⌜ Month month ⌝ }
+    ensures { λ f. ⌜ Finds switch year month day f ⌝ }
+{
+    let new = reading(
+        inner::is_gregorian_leap(year),
+        inner::gregorian_start(year),
+        year,
+        month,
+        day,
+    );
+    match new {
+        Read::Nothing => match julian_below(switch, year, month, day) {
+            Read::At(s) => Found::At(s),
+            Read::Nothing => Found::Nowhere,
+        },
+        Read::At(s) => {
+            if switch <= s.held {
+                return Found::At(s);
+            }
+            match julian_below(switch, year, month, day) {
+                Read::At(t) => Found::At(t),
+                Read::Nothing => Found::Skipped,
+            }
+        }
+    }
+}
+
+pub enum Read {
+    At(Spot),
+    Nothing,
+}
+
+// The day of a label in the Julian reckoning, where that is before the switch.
+fn julian_below(switch: u64, year: u32, month: u32, day: u32) -> Read
+    requires { ⌜ Month month ⌝ }
+    ensures { λ r. ⌜ ReadsBelow switch year month day r ⌝ }
+{
+    match reading(
+        inner::is_julian_leap(year),
+        inner::julian_start(year),
+        year,
+        month,
+        day,
+    ) {
+        Read::Nothing => Read::Nothing,
+        Read::At(s) => {
+            if s.held < switch {
+                return Read::At(s);
+            }
+            Read::Nothing
+        }
+    }
+}
+
+// The day of a label in a reckoning, by the first day of the year and whether that is leap.
+fn reading(leap: bool, start: u64, year: u32, month: u32, day: u32) -> Read
+    requires { ⌜ start < 2_000_000_000_000 ⌝ }
+    ensures { λ r. ⌜ Reads leap start year month day r ⌝ }
+{
+    match inner::md2ordinal(leap, month, day) {
+        DayOrdinal::Nothing => Read::Nothing,
+        DayOrdinal::At(ordinal) => Read::At(Spot {
+            held: start + ordinal as u64 - 1,
+            year: year,
+            ordinal: ordinal,
+            month: month,
+            day: day,
+        }),
+    }
+}
+
+// The record of a day, or that 32 bits do not hold its number.
+fn given(calendar: Calendar, switch: u64, s: Spot) -> Dated
+    requires { ⌜ Runs (meant calendar) switch × OnSpot switch s ⌝ }
+    ensures { λ d. ⌜ Given calendar (Held.year (heldYear (s .year))) (day (s .held)) d ⌝ }
+{
+    match inner::day_number(s.held) {
+        DayNumber::Day(jdn) => Dated::Date(record_of(calendar, switch, s, jdn)),
+        DayNumber::Nothing => crate::refused_year(whole::lowered(s.year)),
+        DayNumber::Outside32 => crate::refused_year(whole::lowered(s.year)),
+    }
+}
+
+// ---- From a place in a year to its day
+
+pub fn on_ordinal(calendar: Calendar, switch: u64, year: i32, ordinal: u32) -> Dated
+    requires { ⌜ Runs (meant calendar) switch ⌝ }
+    ensures { λ d. ⌜ ByOrdinal calendar year ordinal d ⌝ }
+{
+    let y = whole::raised(year);
+    let span = crate::year_span(switch, y);
+    if ordinal < 1 {
+        return crate::refused_count(6, ordinal);
+    }
+    if span.past < span.first + ordinal as u64 {
+        return crate::refused_count(6, ordinal);
+    }
+    in_year(calendar, switch, y, span.first + ordinal as u64 - 1)
+}
+
+// The record of a day of a raised year, by its ordinal in its own reckoning.
+fn in_year(calendar: Calendar, switch: u64, year: u32, held: u64) -> Dated
+    requires { ⌜ InYear calendar switch year held ⌝ }
+    ensures { λ d. ⌜ Given calendar (Held.year (heldYear year)) (day held) d ⌝ }
+{
+    if held < switch {
+        let ordinal = held + 1 - inner::julian_start(year);
+        return given(
+            calendar,
+            switch,
+            spot_at(held, year, ordinal as u32, inner::is_julian_leap(year)),
+        );
+    }
+    let ordinal = held + 1 - inner::gregorian_start(year);
+    given(
+        calendar,
+        switch,
+        spot_at(held, year, ordinal as u32, inner::is_gregorian_leap(year)),
+    )
+}
