@@ -1,18 +1,22 @@
 -- From what the private functions say to the promises.
 -- Assumes nothing.
 use mathlib.Core.Path.{_≡_, refl, sym, _∙_, ap, ap₂, subst, subst₂}
-use mathlib.Core.Bool.{Bool, true, false}
+use mathlib.Core.Bool.{Bool, true, false, not}
 use mathlib.Core.Logic.{_⊎_, inl, inr, ⊎-elim}
 use Prim.Native.Nat.{ℕ, suc, _+_, _-_, _*_, _/_, _<_, _≤_, _^_}
 use native.Mathlib.Omega.{arith}
 use native.Mathlib.Numerals.{add-one}
-use lib.IntN.{ℤ, pos, sucℤ, predℤ}
+use borrow.Author.Tests.{lt-ltb, le-ltb}
+use lib.Dec.{ltb}
+use lib.IntN.{ℤ, pos, sucℤ, predℤ, -ℤ-one}
 use mir.Syntax.{w32}
 use mir.Val.{SFits, toZ, ofZ}
 use Rattle.whole.specs.Tests.{lt-or-ge}
-use Rattle.whole.specs.Biased.{unbias}
+use Rattle.whole.specs.Biased.{unbias, unbias-suc, unbias-back}
+use Rattle.whole.specs.Machine.{unbias-more}
+use Rattle.whole.specs.Edge.{unbias-fits, unbias-fits-only}
 use Rattle.days.specs.DayByDay as D
-use Rattle.days.specs.DayByDay.{Label, label, OfYear, OfMonth, Place, Ordinal, DayOrdinal, YearLength, Borne, Is32Bit, monthLength}
+use Rattle.days.specs.DayByDay.{Label, label, OfYear, OfMonth, Place, Ordinal, DayOrdinal, YearLength, Borne, Is32Bit, monthLength, Style, JulianStyle, GregorianStyle, style}
 use Rattle.days.specs.Rising.{nth-within, days-one}
 use Rattle.days.specs.Held.{dayBias, yearBias, day, year, HeldDay, HeldYear}
 use Rattle.days.specs.Year.{yearLength, year-most}
@@ -46,10 +50,12 @@ use Rattle.calendar.specs.declared.Switch.the-variants as Switch′
 use Rattle.calendar.specs.declared.record.Spot as S
 use Rattle.calendar.specs.declared.record.Found.the-variants as Found′
 use Rattle.calendar.specs.declared.record.Read.the-variants as Read′
-use Rattle.calendar.specs.Calendars.{meant, labels, Accepted, IsRecord}
+use Rattle.calendar.specs.declared.Refusal.{Refusal}
+use Rattle.calendar.specs.Calendars.{meant, labels, Accepted, IsRecord, Genuine, sameStyle, styleIs}
 use Rattle.calendar.specs.Rows.{refuses, passes}
-use Rattle.calendar.specs.Promise.{refused, refusedReformation, outcomeIs, Reforms, judged, Month, RecordOf, record-of, Given, ByLabel, OnLabel, on-label, ByOrdinal, OffYear, OnOrdinal, on-ordinal}
-use Rattle.calendar.specs.Natural.{SwitchIs, switches-at, no-calendar, YearSpan, InYear, At, LabelledAt, old, new, OnSpot, spot, plainRecord, SpotAt, ThereIn, Reads, reads-at, reads-none, ReadsBelow, below-at, below-none, Finds, finds-at, finds-gap, finds-none}
+use Rattle.calendar.specs.Promise.{refused, refusedReformation, outcomeIs, Reforms, judged, Month, RecordOf, record-of, Given, ByLabel, OnLabel, on-label, ByOrdinal, OffYear, OnOrdinal, on-ordinal, AtJdn, IsGenuine, Next, ConvertsTo}
+use Rattle.calendar.specs.One.{whole, record-one}
+use Rattle.calendar.specs.Natural.{SwitchIs, switches-at, no-calendar, YearSpan, InYear, At, LabelledAt, old, new, OnSpot, spot, plainRecord, SpotAt, ThereIn, Reads, reads-at, reads-none, ReadsBelow, below-at, below-none, Finds, finds-at, finds-gap, finds-none, Agree, SameFields}
 
 -- ---- Where a calendar goes over
 pub switch-reforming : {r : ℤ} (x : ℕ) → unbias (2 ^ 31) x ≡ r → 784_368_640_634 ≤ heldDay x → heldDay x ≤ 786_514_249_530 → SwitchIs (Reforming r) (Switch′.At (heldDay x))
@@ -471,3 +477,83 @@ module _ {r : ℕ} (s : S.Spot) {a : ℕ} (l : OnSpot r s) (h : r ≤ s .held) w
 -- what is given of a spot is given of its day and year
 pub given-spot : (c : Calendar) {k y o : ℕ} {b : Bool} {s : S.Spot} {a : Dated} → SpotAt k y o b s → Given c (year (heldYear (s .year))) (day (s .held)) a → Given c (year (heldYear y)) (day k) a
 given-spot c {a = a} p g = subst (λ (s : S.Spot). Given c (year (heldYear (s .year))) (day (s .held)) a) (p .is) g
+
+-- ---- A genuine record
+pub genuine-by : {d t : Date} → RecordOf (d .calendar) (d .jdn) (Dated′.Date t) → Accepted (d .calendar) → Agree d t → Genuine d
+unfolding whole
+genuine-by {d} {t} (record-of i) a g = record { accepted = a; is-record = subst (IsRecord (d .calendar) (d .jdn)) same i }
+  where
+    same : t ≡ d
+    same =
+        let c : t .calendar ≡ d .calendar = i .calendar-is in
+        let j : t .jdn ≡ d .jdn = i .day-is in
+        let y : d .year ≡ t .year = g .years in
+        let o : d .ordinal ≡ t .ordinal = g .ordinals in
+        let m : d .month ≡ t .month = g .months in
+        let e : d .day ≡ t .day = g .days in
+        let b : d .«day_ordinal» ≡ t .«day_ordinal» = g .day-ordinals in
+        let w : whole (t .calendar) (t .year) (t .ordinal) (t .month) (t .day) (t .«day_ordinal») (t .jdn) ≡ whole (d .calendar) (d .year) (d .ordinal) (d .month) (d .day) (d .«day_ordinal») (d .jdn) = cc in
+        w
+
+not-genuine : {d t : Date} → RecordOf (d .calendar) (d .jdn) (Dated′.Date t) → ¬ Agree d t → ¬ Genuine d
+not-genuine {d} {t} (record-of i) n g =
+    let e : d ≡ t = record-one (d .calendar) (g .is-record) i in
+    n (record { years = ap (λ (d : Date). d .year) e; ordinals = ap (λ (d : Date). d .ordinal) e; months = ap (λ (d : Date). d .month) e; days = ap (λ (d : Date). d .day) e; day-ordinals = ap (λ (d : Date). d .«day_ordinal») e })
+
+-- from the record of its day number in its calendar
+pub genuine-compared : (d t : Date) (b : Bool) → AtJdn (d .calendar) (d .jdn) (Dated′.Date t) → SameFields d t b → IsGenuine d b
+genuine-compared d t true (passes a r) s = genuine-by r a s
+genuine-compared d t false (passes a r) s = not-genuine r s
+
+pub genuine-refused : {d : Date} {a : Dated} {f : Refusal} → a ≡ Dated′.Refused f → AtJdn (d .calendar) (d .jdn) a → ¬ Genuine d
+genuine-refused e (refuses x) g = x (g .accepted)
+genuine-refused e (passes a (record-of i)) g = let z : _≡_ {A = ℕ} 0 1 = cc in omega arith
+
+-- the record of a day next to it
+pub next-row : {d : Date} {n : ℤ} {a : Dated} → Genuine d → Is32Bit n → AtJdn (d .calendar) n a → Next d n a
+next-row g f (refuses x) = absurd (x (g .accepted))
+next-row g f (passes x r) = passes g (passes f r)
+
+pub converts-row : {d : Date} {c : Calendar} {a : Dated} → Genuine d → AtJdn c (d .jdn) a → ConvertsTo d c a
+converts-row g (refuses x) = refuses (λ p. x (p .1))
+converts-row g (passes x r) = passes (g, x) r
+
+-- the days next to a raised one
+pub suc-is : {n : ℤ} (x : ℕ) → unbias (2 ^ 31) x ≡ n → unbias (2 ^ 31) (x + 1) ≡ sucℤ n
+suc-is x e = ap (unbias (2 ^ 31)) (add-one x) ∙ unbias-suc (2 ^ 31) x ∙ ap sucℤ e
+
+pub pred-is : {n : ℤ} (x : ℕ) → 1 ≤ x → unbias (2 ^ 31) x ≡ n → unbias (2 ^ 31) (x - 1) ≡ predℤ n
+pred-is {n} x h e = sym (unbias-back (2 ^ 31) x 1 h) ∙ -ℤ-one (unbias (2 ^ 31) x) ∙ ap predℤ e
+
+pub suc-far : {n : ℤ} (x : ℕ) → unbias (2 ^ 31) x ≡ n → x ≡ 4_294_967_295 → ¬ Is32Bit (sucℤ n)
+suc-far x e h f = omega (arith, unbias-fits-only (2 ^ 31) (x + 1) (subst Is32Bit (sym (suc-is x e)) f))
+
+pub pred-far : {n : ℤ} (x : ℕ) → unbias (2 ^ 31) x ≡ n → x ≡ 0 → ¬ Is32Bit (predℤ n)
+pred-far {n} x e h f = never (unbias-fits-only (2 ^ 31 + 1) 0 (subst Is32Bit (sym is) f))
+  where
+    is : unbias (2 ^ 31 + 1) 0 ≡ predℤ n
+    is = sym (unbias-more (2 ^ 31) 1 0) ∙ -ℤ-one (unbias (2 ^ 31) 0) ∙ ap predℤ (ap (unbias (2 ^ 31)) (sym h) ∙ e)
+
+    never : (2 ^ 31 + 1 ≤ 0 + 2 ^ 31) × (0 < 2 ^ 31 + 1 + 2 ^ 31) → ⊥
+    never p = omega arith
+
+pub raised-fits : {n : ℤ} (x : ℕ) → x < 2 ^ 32 → unbias (2 ^ 31) x ≡ n → Is32Bit n
+raised-fits x h e = subst Is32Bit e (unbias-fits (2 ^ 31) x (omega arith) (omega arith))
+
+-- ---- Styles
+pub julian-style : (c : Calendar) {r : ℕ} → Runs (meant c) r → {n : ℤ} (x : ℕ) → x < 2 ^ 32 → unbias (2 ^ 31) x ≡ n → ltb (heldDay x) r ≡ sameStyle JulianStyle (style (meant c) n)
+julian-style c {r} runs x h e = subst (λ (n : ℤ). ltb (heldDay x) r ≡ sameStyle JulianStyle (style (meant c) n)) (held-day x ∙ e) (⊎-elim
+    (λ g. lt-ltb (heldDay x) r g ∙ sym (ap (sameStyle JulianStyle) (runs .below (heldDay x) g (omega arith) .1)))
+    (λ g. le-ltb (heldDay x) r g ∙ sym (ap (sameStyle JulianStyle) (runs .above (heldDay x) g (omega arith) .1)))
+    (lt-or-ge (heldDay x) r))
+
+pub other-style : (d : Date) {b : Bool} → b ≡ styleIs JulianStyle d → not b ≡ styleIs GregorianStyle d
+other-style d e = ap not e ∙ other (style (meant (d .calendar)) (d .jdn))
+  where
+    other : (s : Style) → not (sameStyle JulianStyle s) ≡ sameStyle GregorianStyle s
+    other JulianStyle = refl
+    other GregorianStyle = refl
+
+-- ---- The day of the reformation
+pub reform-some : {r : ℤ} (x : ℕ) → Accepted (Reforming r) → unbias (2 ^ 31) x ≡ r → 1 ≤ x
+reform-some x (D.reforming-accepted a) e = omega (arith, accepts-only (heldDay x) (omega arith) (subst D.AcceptedReformation (sym (held-day x ∙ e)) a))

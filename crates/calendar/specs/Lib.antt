@@ -4,5 +4,6 @@
 pub mod Calendars
 pub mod Rows
 pub mod Promise
+pub mod One
 pub mod Natural
 pub mod Laws

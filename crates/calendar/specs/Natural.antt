@@ -1,9 +1,9 @@
 -- What the private functions say, of days and years that are held as naturals.
 use mathlib.Core.Path.{_≡_}
-use mathlib.Core.Bool.{Bool}
-use lib.IntN.{ℤ}
+use mathlib.Core.Bool.{Bool, true, false}
+use lib.IntN.{ℤ, pos}
 use Prim.Native.Nat.{ℕ, _+_, _-_, _≤_, _<_}
-use Rattle.days.specs.DayByDay.{monthLength, OfYear}
+use Rattle.days.specs.DayByDay.{monthLength, OfYear, JulianStyle, style}
 use Rattle.days.specs.Held.{day, year, HeldYear}
 use Rattle.days.specs.Julian as J
 use Rattle.days.specs.Gregorian as G
@@ -19,7 +19,11 @@ use Rattle.calendar.specs.declared.record.Found.{Found}
 use Rattle.calendar.specs.declared.record.Found.the-variants as Found′
 use Rattle.calendar.specs.declared.record.Read.{Read}
 use Rattle.calendar.specs.declared.record.Read.the-variants as Read′
-use Rattle.calendar.specs.Calendars.{meant, labels, Accepted}
+use Rattle.calendar.specs.declared.ReformDate.{ReformDate}
+use Rattle.calendar.specs.declared.ReformDate.the-variants as ReformDate′
+use Rattle.calendar.specs.Calendars.{meant, labels, Accepted, sameStyle}
+use Rattle.calendar.specs.Rows.{Unless}
+use Rattle.calendar.specs.Promise.{made-up, ReformRecord}
 
 -- the calendar is Julian below the held day r and Gregorian from it on; or it is made up
 pub data SwitchIs (c : Calendar) : Switch → Type 0 where
@@ -86,3 +90,25 @@ pub data Finds (r y m d : ℕ) : Found → Type 0 where
   finds-at : {k o : ℕ} → LabelledAt r k (heldYear y) m d o → Finds r y m d (Found′.At (spot k y o m d))
   finds-gap : There G.leapAt (heldYear y) m d → r ≤ number J.leapAt J.start (heldYear y) m d → number G.leapAt G.start (heldYear y) m d < r → Finds r y m d Found′.Skipped
   finds-none : ¬ There G.leapAt (heldYear y) m d → (There J.leapAt (heldYear y) m d → r ≤ number J.leapAt J.start (heldYear y) m d) → Finds r y m d Found′.Nowhere
+
+-- ---- Of a calendar and of a date
+
+-- the date so many days before the first Gregorian one
+abbrev pub ReformDateOf : Calendar → ℕ → ReformDate → Type 0
+ReformDateOf c b = Unless (Accepted c) (ReformDate′.Refused made-up) (ReformRecord (pos b) c)
+
+-- two records agree in the fields that the day number and the calendar determine
+pub record Agree (a b : Date) : Type 0 where
+  pub years : a .year ≡ b .year
+  pub ordinals : a .ordinal ≡ b .ordinal
+  pub months : a .month ≡ b .month
+  pub days : a .day ≡ b .day
+  pub day-ordinals : a .«day_ordinal» ≡ b .«day_ordinal»
+
+abbrev pub SameFields : Date → Date → Bool → Type 0
+SameFields a b true = Agree a b
+SameFields a b false = ¬ Agree a b
+
+-- of an accepted calendar: whether the label of a 32-bit day is Julian
+abbrev pub JulianStyleIs : Calendar → ℤ → Bool → Type 0
+JulianStyleIs c n b = Accepted c → b ≡ sameStyle JulianStyle (style (meant c) n)

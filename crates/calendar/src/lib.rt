@@ -5,12 +5,14 @@ ghost use mathlib.Core.Path.{_≡_};
 ghost use lib.IntN.{pos, sucℤ, predℤ};
 ghost use Rattle.days.specs.DayByDay.{weekday, JulianStyle, GregorianStyle};
 ghost use Rattle.days.specs.Runs.{firstDay};
-ghost use Prim.Native.Nat.{_-_};
+ghost use mathlib.Core.Bool.{not};
+ghost use Prim.Native.Nat.{_-_, _≤_};
 ghost use Rattle.calendar.specs.Calendars.{isReforming, styleIs};
-ghost use Rattle.calendar.specs.Promise.{refusal, refused, refusedReformation, Reforms, AtJdn, AtYmd, AtOrdinal, Next, ConvertsTo, IsGenuine, TellsCalendar, TellsDate, CountsDate, ReformationOf, LastJulian, FirstGregorian};
+ghost use Rattle.calendar.specs.Promise.{refusal, refused, refusedReformation, Reforms, AtJdn, AtYmd, AtOrdinal, Next, ConvertsTo, IsGenuine, TellsCalendar, TellsDate, CountsDate, ReformationOf, reformDay, LastJulian, FirstGregorian};
 ghost use Rattle.inner.specs.Natural.{heldYear};
-ghost use Rattle.calendar.specs.Natural.{SwitchIs, YearSpan};
+ghost use Rattle.calendar.specs.Natural.{SwitchIs, YearSpan, ReformDateOf, SameFields, JulianStyleIs};
 use whole::counted;
+use whole::lowered;
 use whole::raised;
 use whole::widened;
 
@@ -246,5 +248,243 @@ impl Calendar {
             Switch::MadeUp => made_up(),
             Switch::At(switch) => record::on_ordinal(calendar, switch, year, ordinal),
         }
+    }
+
+    pub fn is_reforming(self) -> Told
+        ensures { λ a. ⌜ TellsCalendar self (isReforming self) a ⌝ }
+    {
+        let calendar = self;
+        match switch_of(calendar) {
+            Switch::MadeUp => Told::Refused(refusal_of(16, 0)),
+            Switch::At(_) => Told::Is(reforms(calendar)),
+        }
+    }
+
+    // A calendar is proleptic that has one reckoning throughout.
+    pub fn is_proleptic(self) -> Told
+        ensures { λ a. ⌜ TellsCalendar self (not (isReforming self)) a ⌝ }
+    {
+        let calendar = self;
+        match switch_of(calendar) {
+            Switch::MadeUp => Told::Refused(refusal_of(16, 0)),
+            Switch::At(_) => Told::Is(!reforms(calendar)),
+        }
+    }
+
+    // The first day with a Gregorian date.
+    pub fn reformation(self) -> ReformDay
+        ensures { λ a. ⌜ ReformationOf self a ⌝ }
+    {
+        let calendar = self;
+        match switch_of(calendar) {
+            Switch::MadeUp => ReformDay::Refused(refusal_of(16, 0)),
+            Switch::At(_) => reform_day(calendar),
+        }
+    }
+
+    pub fn last_julian_date(self) -> ReformDate
+        ensures { λ a. ⌜ LastJulian self a ⌝ }
+    {
+        self.reform_date(1)
+    }
+
+    pub fn first_gregorian_date(self) -> ReformDate
+        ensures { λ a. ⌜ FirstGregorian self a ⌝ }
+    {
+        self.reform_date(0)
+    }
+
+    // The date so many days before the first Gregorian one.
+    fn reform_date(self, before: u32) -> ReformDate
+        requires { ⌜ before ≤ 1 ⌝ }
+        ensures { λ a. ⌜ ReformDateOf self before a ⌝ }
+    {
+        let calendar = self;
+        match switch_of(calendar) {
+            Switch::MadeUp => ReformDate::Refused(refusal_of(16, 0)),
+            Switch::At(switch) => match calendar {
+                Calendar::Julian => ReformDate::Never,
+                Calendar::Gregorian => ReformDate::Never,
+                Calendar::Reforming(r) => {
+                    let jdn = lowered(raised(r) - before);
+                    ReformDate::Date(record::on_day(calendar, switch, jdn))
+                }
+            },
+        }
+    }
+}
+
+fn reforms(calendar: Calendar) -> bool
+    ensures { λ b. ⌜ b ≡ isReforming calendar ⌝ }
+{
+    match calendar {
+        Calendar::Julian => false,
+        Calendar::Gregorian => false,
+        Calendar::Reforming(_) => true,
+    }
+}
+
+fn reform_day(calendar: Calendar) -> ReformDay
+    ensures { λ a. ⌜ a ≡ reformDay calendar ⌝ }
+{
+    match calendar {
+        Calendar::Julian => ReformDay::Never,
+        Calendar::Gregorian => ReformDay::Never,
+        Calendar::Reforming(r) => ReformDay::Day(r),
+    }
+}
+
+// ---- Dates
+
+// The days of the week, from 1, a Monday, to 7.
+pub struct Weekday {
+    pub number: u32,
+}
+
+impl Weekday {
+    pub fn for_jdn(jdn: i32) -> u32
+        ensures { λ w. ⌜ w ≡ weekday jdn ⌝ }
+    {
+        ((raised(jdn) as u64 + 5) % 7 + 1) as u32
+    }
+}
+
+impl Date {
+    // Whether the record is one that an accepted call gives: that of its day number in its calendar.
+    pub fn is_genuine(self) -> bool
+        ensures { λ g. ⌜ IsGenuine self g ⌝ }
+    {
+        let calendar = self.calendar;
+        match calendar.at_jdn(self.jdn) {
+            Dated::Refused(_) => false,
+            Dated::Date(given) => same_fields(self, given),
+        }
+    }
+
+    pub fn weekday(self) -> Counted
+        ensures { λ a. ⌜ CountsDate self (weekday (self .jdn)) a ⌝ }
+    {
+        if self.is_genuine() {
+            return Counted::Number(Weekday::for_jdn(self.jdn));
+        }
+        Counted::Refused(refusal_of(16, 0))
+    }
+
+    // The ordinal and the day ordinal, counted from 0.
+    pub fn ordinal0(self) -> Counted
+        ensures { λ a. ⌜ CountsDate self (self .ordinal - 1) a ⌝ }
+    {
+        if self.is_genuine() {
+            return Counted::Number(one_less(self.ordinal));
+        }
+        Counted::Refused(refusal_of(16, 0))
+    }
+
+    pub fn day_ordinal0(self) -> Counted
+        ensures { λ a. ⌜ CountsDate self (self .«day_ordinal» - 1) a ⌝ }
+    {
+        if self.is_genuine() {
+            return Counted::Number(one_less(self.day_ordinal));
+        }
+        Counted::Refused(refusal_of(16, 0))
+    }
+
+    pub fn is_julian(self) -> Told
+        ensures { λ a. ⌜ TellsDate self (styleIs JulianStyle self) a ⌝ }
+    {
+        if self.is_genuine() {
+            let calendar = self.calendar;
+            return Told::Is(has_julian_style(calendar, self.jdn));
+        }
+        Told::Refused(refusal_of(16, 0))
+    }
+
+    pub fn is_gregorian(self) -> Told
+        ensures { λ a. ⌜ TellsDate self (styleIs GregorianStyle self) a ⌝ }
+    {
+        if self.is_genuine() {
+            let calendar = self.calendar;
+            return Told::Is(!has_julian_style(calendar, self.jdn));
+        }
+        Told::Refused(refusal_of(16, 0))
+    }
+
+    // The date of the same day in another calendar.
+    pub fn convert_to(self, calendar: Calendar) -> Dated
+        ensures { λ a. ⌜ ConvertsTo self calendar a ⌝ }
+    {
+        if self.is_genuine() {
+            return calendar.at_jdn(self.jdn);
+        }
+        made_up()
+    }
+
+    // The date of the next day, and of the day before.
+    pub fn succ(self) -> Dated
+        ensures { λ a. ⌜ Next self (sucℤ (self .jdn)) a ⌝ }
+    {
+        if self.is_genuine() {
+            let day = raised(self.jdn);
+            if day == 4_294_967_295 {
+                return refused_count(15, 0);
+            }
+            let calendar = self.calendar;
+            return calendar.at_jdn(lowered(day + 1));
+        }
+        made_up()
+    }
+
+    pub fn pred(self) -> Dated
+        ensures { λ a. ⌜ Next self (predℤ (self .jdn)) a ⌝ }
+    {
+        if self.is_genuine() {
+            let day = raised(self.jdn);
+            if day == 0 {
+                return refused_count(15, 0);
+            }
+            let calendar = self.calendar;
+            return calendar.at_jdn(lowered(day - 1));
+        }
+        made_up()
+    }
+}
+
+fn one_less(n: u32) -> u32
+    ensures { λ r. ⌜ r ≡ n - 1 ⌝ }
+{
+    if n < 1 {
+        return 0;
+    }
+    n - 1
+}
+
+fn same_fields(a: Date, b: Date) -> bool
+    ensures { λ r. ⌜ SameFields a b r ⌝ }
+{
+    if a.year != b.year {
+        return false;
+    }
+    if a.ordinal != b.ordinal {
+        return false;
+    }
+    if a.month != b.month {
+        return false;
+    }
+    if a.day != b.day {
+        return false;
+    }
+    if a.day_ordinal != b.day_ordinal {
+        return false;
+    }
+    true
+}
+
+// Whether a day is before the switch of an accepted calendar.
+fn has_julian_style(calendar: Calendar, jdn: i32) -> bool
+    ensures { λ b. ⌜ JulianStyleIs calendar jdn b ⌝ }
+{
+    match switch_of(calendar) {
+        Switch::MadeUp => false,
+        Switch::At(switch) => (raised(jdn) as u64 + 782_219_326_294) < switch,
     }
 }

@@ -7,13 +7,13 @@ use Prim.Native.Nat.{ℕ, zero, suc, _+_, _-_, _*_, _/_, _%_, _<_, _≤_, _^_}
 use native.Mathlib.Omega.{arith}
 use native.Mathlib.Nat.{add-comm}
 use native.Mathlib.Numerals.{add-one}
-use borrow.Author.Tests.{lt-ltb, le-ltb, ltb-true}
-use lib.Dec.{ltb}
+use borrow.Author.Tests.{lt-ltb, le-ltb, ltb-true, eq-eqb, ne-eqb}
+use lib.Dec.{ltb, eqb}
 use lib.IntN.{ℤ, pos, sucℤ}
 use lib.Signed.{_<ℤ_, _≤ℤ_, clashℤ}
 use mir.Syntax.{w32}
 use mir.Val.{SFits, toZ, ofZ}
-use Rattle.whole.specs.Tests.{lt-or-ge}
+use Rattle.whole.specs.Tests.{lt-or-ge, eq-or-not}
 use Rattle.whole.specs.Biased.{unbias}
 use Rattle.whole.specs.Machine.{back, unbias-both}
 use Rattle.whole.specs.Edge.{unbias-fits-only}
@@ -63,6 +63,43 @@ julian-leap y = J.starts .leap-is y
 pub gregorian-leap : (y : ℕ) → gregorianLeap (year y) ≡ G.leapAt y
 unfolding gregorian
 gregorian-leap y = G.starts .leap-is y
+
+-- of a multiple of 4, 100 divides it exactly if 25 does, and then 400 does exactly if 16 does
+by-100 : (y : ℕ) → y % 4 ≡ 0 → (y % 25 ≡ 0 → ⊥) → y % 100 ≡ 0 → ⊥
+by-100 y e n f = n (omega arith)
+
+pub leap-by-4 : (y : ℕ) → (y % 25 ≡ 0 → ⊥) → eqb (y % 4) 0 ≡ G.leapAt y
+leap-by-4 y n = ⊎-elim
+    (λ e. eq-eqb (y % 4) 0 e ∙ sym (simp (eq-eqb (y % 4) 0 e, ne-eqb (y % 100) 0 (by-100 y e n))))
+    (λ m. ne-eqb (y % 4) 0 m ∙ sym (simp (ne-eqb (y % 4) 0 m)))
+    (eq-or-not (y % 4) 0)
+
+pub leap-by-16 : (y : ℕ) → y % 25 ≡ 0 → eqb (y % 16) 0 ≡ G.leapAt y
+leap-by-16 y e = ⊎-elim
+    (λ f. let g : y % 4 ≡ 0 = by-4 y f in let h : y % 100 ≡ 0 = hundred y g e in eq-eqb (y % 16) 0 f ∙ sym (simp (eq-eqb (y % 4) 0 g, eq-eqb (y % 100) 0 h, eq-eqb (y % 400) 0 (four-hundred y h f))))
+    (λ n. ne-eqb (y % 16) 0 n ∙ sym (⊎-elim
+    (λ g. let h : y % 100 ≡ 0 = hundred y g e in simp (eq-eqb (y % 4) 0 g, eq-eqb (y % 100) 0 h, ne-eqb (y % 400) 0 (by-400 y n)))
+    (λ m. simp (ne-eqb (y % 4) 0 m))
+    (eq-or-not (y % 4) 0)))
+    (eq-or-not (y % 16) 0)
+  where
+    by-4 : (y : ℕ) → y % 16 ≡ 0 → y % 4 ≡ 0
+    by-4 y f = omega arith
+
+    hundred : (y : ℕ) → y % 4 ≡ 0 → y % 25 ≡ 0 → y % 100 ≡ 0
+    hundred y g e = at (y / 4 - 6 * (y / 25)) (omega arith)
+      where
+        at : (r : ℕ) → y ≡ 100 * r → y % 100 ≡ 0
+        at r q = omega arith
+
+    four-hundred : (y : ℕ) → y % 100 ≡ 0 → y % 16 ≡ 0 → y % 400 ≡ 0
+    four-hundred y h f = at (y / 16 - 6 * (y / 100)) (omega arith)
+      where
+        at : (r : ℕ) → y ≡ 400 * r → y % 400 ≡ 0
+        at r q = omega arith
+
+    by-400 : (y : ℕ) → (y % 16 ≡ 0 → ⊥) → y % 400 ≡ 0 → ⊥
+    by-400 y n f = n (omega arith)
 
 -- ---- A reckoning alone
 pub record Alone (c : Calendar) (r : ℕ) (reckoning : Reckoning) (leapAt : ℕ → Bool) (start : ℕ → ℕ) : Type 0 where

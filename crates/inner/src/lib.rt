@@ -28,7 +28,8 @@ pub fn is_gregorian_leap_year(year: i32) -> bool
     is_gregorian_leap(raised(year))
 }
 
-// The same of a raised year. 352 more make it a multiple of 400 exactly when the year is one.
+// The same of a raised year. 352 more make it a multiple of 400 exactly when the year is one. Of a multiple of 4, 100 divides it exactly
+// if 25 does, and then 400 does exactly if 16 does.
 pub fn is_julian_leap(year: u32) -> bool
     ensures { λ r. ⌜ r ≡ J.leapAt (heldYear year) ⌝ }
 {
@@ -40,13 +41,10 @@ pub fn is_gregorian_leap(year: u32) -> bool
     ensures { λ r. ⌜ r ≡ G.leapAt (heldYear year) ⌝ }
 {
     let y = year as u64 + 352;
-    if y % 4 != 0 {
-        return false;
+    if y % 25 != 0 {
+        return y % 4 == 0;
     }
-    if y % 100 != 0 {
-        return true;
-    }
-    y % 400 == 0
+    y % 16 == 0
 }
 
 pub fn days_in_year(leap: bool) -> u32
@@ -198,7 +196,8 @@ pub fn gregorian_start(year: u32) -> u64
     ensures { λ r. ⌜ r ≡ G.start (heldYear year) ⌝ }
 {
     let y = year as u64 + 352;
-    365 * y + (y + 3) / 4 + (y + 399) / 400 + 16_106_132 - (y + 99) / 100
+    let centuries = (y + 99) / 100;
+    365 * y + (y + 3) / 4 + (centuries + 3) / 4 + 16_106_132 - centuries
 }
 
 // A day that is held as so much more than its number, in 32 bits.

@@ -1,0 +1,107 @@
+-- Two results that a promise allows for one input are equal: a theorem for each promise.
+-- Assumes nothing.
+use mathlib.Core.Path.{_≡_, refl, sym, _∙_, ap, subst}
+use mathlib.Core.Bool.{Bool, true, false}
+use Prim.Native.Nat.{ℕ}
+use lib.IntN.{ℤ}
+use Rattle.days.specs.DayByDay.{Label, label, OfYear, Place, Is32Bit}
+use Rattle.days.specs.Rising.{once, place-one, nth-one}
+use Rattle.days.specs.Calendars.{accepted-rises}
+use Rattle.days.specs.Table.{judged-one}
+use Rattle.calendar.specs.declared.Calendar.{Calendar}
+use Rattle.calendar.specs.declared.Calendar.the-variants as Calendar′
+use Rattle.calendar.specs.declared.Date.{Date}
+use Rattle.calendar.specs.declared.Reformed.{Reformed}
+use Rattle.calendar.specs.declared.Dated.{Dated}
+use Rattle.calendar.specs.declared.Dated.the-variants as Dated′
+use Rattle.calendar.specs.declared.ReformDate.{ReformDate}
+use Rattle.calendar.specs.declared.ReformDate.the-variants as ReformDate′
+use Rattle.calendar.specs.Calendars.{labels, Accepted, IsRecord, Genuine}
+use Rattle.calendar.specs.Rows.{One, unless-one, if-one, answers-one}
+use Rattle.calendar.specs.Promise.{outcomeIs, Reforms, judged, RecordOf, record-of, AtJdn, Given, OnLabel, on-label, AtYmd, OnOrdinal, on-ordinal, AtOrdinal, TellsCalendar, ReformationOf, reformDay, ReformRecord, never-julian, never-gregorian, reform-record, LastJulian, FirstGregorian, IsGenuine, TellsDate, CountsDate, Next, ConvertsTo}
+
+-- ---- A day has one record
+unfoldable pub whole : Calendar → ℤ → ℕ → ℕ → ℕ → ℕ → ℤ → Date
+whole c y o m d b j = record { calendar = c; year = y; ordinal = o; month = m; day = d; «day_ordinal» = b; jdn = j }
+
+pub record-one : (c : Calendar) {n : ℤ} {r s : Date} → IsRecord c n r → IsRecord c n s → r ≡ s
+unfolding whole
+record-one c {n} {r} {s} p q =
+    let l : label (r .year) (r .month) (r .day) ≡ label (s .year) (s .month) (s .day) = sym (p .label-is) ∙ q .label-is in
+    let y : r .year ≡ s .year = ap (λ (l : Label). l .year) l in
+    let m : r .month ≡ s .month = ap (λ (l : Label). l .month) l in
+    let d : r .day ≡ s .day = ap (λ (l : Label). l .day) l in
+    let o : r .ordinal ≡ s .ordinal = place-one (p .ordinal-is) (q .ordinal-is) in
+    let b : r .«day_ordinal» ≡ s .«day_ordinal» = place-one (p .day-ordinal-is) (q .day-ordinal-is) in
+    let k : r .calendar ≡ s .calendar = p .calendar-is ∙ sym (q .calendar-is) in
+    let j : r .jdn ≡ s .jdn = p .day-is ∙ sym (q .day-is) in
+    let e : whole (r .calendar) (r .year) (r .ordinal) (r .month) (r .day) (r .«day_ordinal») (r .jdn)
+    ≡ whole (s .calendar) (s .year) (s .ordinal) (s .month) (s .day) (s .«day_ordinal») (s .jdn) = cc in
+    e
+
+record-of-one : (c : Calendar) (n : ℤ) → One (RecordOf c n)
+record-of-one c n a b (record-of p) (record-of q) = ap Dated′.Date (record-one c p q)
+
+-- ---- Reformations
+pub reforms-one : (r : ℤ) → One (Reforms r)
+reforms-one r a b (judged p) (judged q) = ap (outcomeIs r) (judged-one p q)
+
+-- ---- Dates
+pub at-jdn-one : (c : Calendar) (n : ℤ) → One (AtJdn c n)
+at-jdn-one c n = unless-one (λ a. record-of-one c n)
+
+pub given-one : (c : Calendar) (y n : ℤ) → One (Given c y n)
+given-one c y n = unless-one (λ f. record-of-one c n)
+
+on-label-one : (c : Calendar) (l : Label) → Accepted c → One (OnLabel c l)
+on-label-one c l acc a b (on-label {n} e p) (on-label {n = m} f q) =
+    let w : m ≡ n = once (accepted-rises acc) (f ∙ sym e) in
+    given-one c (l .year) n a b p (subst (λ (k : ℤ). Given c (l .year) k b) w q)
+
+pub at-ymd-one : (c : Calendar) (y : ℤ) (m d : ℕ) → One (AtYmd c y m d)
+at-ymd-one c y m d = unless-one (λ a. unless-one (λ v. if-one (λ n. if-one (λ s. on-label-one c (label y m d) a))))
+
+on-ordinal-one : (c : Calendar) (y : ℤ) (o : ℕ) → One (OnOrdinal c y o)
+on-ordinal-one c y o a b (on-ordinal {n} u e p) (on-ordinal {n = m} v f q) =
+    let w : m ≡ n = nth-one v f u e in
+    given-one c y n a b p (subst (λ (k : ℤ). Given c y k b) w q)
+
+pub at-ordinal-one : (c : Calendar) (y : ℤ) (o : ℕ) → One (AtOrdinal c y o)
+at-ordinal-one c y o = unless-one (λ a. if-one (λ n. on-ordinal-one c y o))
+
+-- ---- Of a calendar
+pub tells-calendar-one : (c : Calendar) (b : Bool) → One (TellsCalendar c b)
+tells-calendar-one c b = unless-one (λ a. answers-one _)
+
+pub reformation-one : (c : Calendar) → One (ReformationOf c)
+reformation-one c = unless-one (λ a. answers-one (reformDay c))
+
+reform-record-one : (before : ℤ) (c : Calendar) → One (ReformRecord before c)
+reform-record-one before Calendar′.Julian a b never-julian never-julian = refl
+reform-record-one before Calendar′.Gregorian a b never-gregorian never-gregorian = refl
+reform-record-one before (Calendar′.Reforming r) a b (reform-record p) (reform-record q) = ap ReformDate′.Date (record-one (Calendar′.Reforming r) p q)
+
+pub last-julian-one : (c : Calendar) → One (LastJulian c)
+last-julian-one c = unless-one (λ a. reform-record-one _ c)
+
+pub first-gregorian-one : (c : Calendar) → One (FirstGregorian c)
+first-gregorian-one c = unless-one (λ a. reform-record-one _ c)
+
+-- ---- Of a date
+pub is-genuine-one : (d : Date) → One (IsGenuine d)
+is-genuine-one d true true p q = refl
+is-genuine-one d true false p q = absurd (q p)
+is-genuine-one d false true p q = absurd (p q)
+is-genuine-one d false false p q = refl
+
+pub tells-date-one : (d : Date) (b : Bool) → One (TellsDate d b)
+tells-date-one d b = unless-one (λ g. answers-one _)
+
+pub counts-date-one : (d : Date) (n : ℕ) → One (CountsDate d n)
+counts-date-one d n = unless-one (λ g. answers-one _)
+
+pub next-one : (d : Date) (n : ℤ) → One (Next d n)
+next-one d n = unless-one (λ g. unless-one (λ f. record-of-one (d .calendar) n))
+
+pub converts-one : (d : Date) (c : Calendar) → One (ConvertsTo d c)
+converts-one d c = unless-one (λ g. record-of-one c (d .jdn))
