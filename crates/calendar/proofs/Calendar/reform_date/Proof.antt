@@ -66,10 +66,10 @@ returns : tie.Need-returns
 returns c = rw (c .refusal-of .ensures) (refuses (switch-made-up _ (rw (c .before .enum-told .given .1) at (c .before .before .before .switch-of .ensures))))
 
 returns-2 : tie.Need-returns-2
-returns-2 c = passes (runs (c .before .before) .accepted) (subst (λ (k : Calendar). ReformRecord (pos _) k ReformDate′.Never) (sym (c .enum-told2 .given .1)) never-julian)
+returns-2 c = passes (runs (c .before .before) .accepted) (subst (λ (k : Calendar). ReformRecord (pos (c .before .before .before .before .before .before .args .before)) k ReformDate′.Never) (sym (c .enum-told2 .given .1)) never-julian)
 
 returns-3 : tie.Need-returns-3
-returns-3 c = passes (runs (c .before .before) .accepted) (subst (λ (k : Calendar). ReformRecord (pos _) k ReformDate′.Never) (sym (c .enum-told3 .given .1)) never-gregorian)
+returns-3 c = passes (runs (c .before .before) .accepted) (subst (λ (k : Calendar). ReformRecord (pos (c .before .before .before .before .before .before .args .before)) k ReformDate′.Never) (sym (c .enum-told3 .given .1)) never-gregorian)
 
 returns-4 : tie.Need-returns-4
 returns-4 c =
