@@ -7,3 +7,4 @@ pub mod Promise
 pub mod One
 pub mod Natural
 pub mod Laws
+pub mod Theorems

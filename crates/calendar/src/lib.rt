@@ -88,6 +88,11 @@ pub enum ReformDate {
 
 // ---- Where a calendar goes over
 
+// The accepted reformations are the days 1830692 to 2147439588; as held days:
+const FIRST_REFORMATION: u64 = 784_368_640_634;
+
+const LAST_REFORMATION: u64 = 786_514_249_530;
+
 // A calendar is Julian below a held day and Gregorian from it on. The Julian one goes over past every day that is looked at, the Gregorian
 // one before.
 pub enum Switch {
@@ -103,10 +108,10 @@ pub fn switch_of(calendar: Calendar) -> Switch
         Calendar::Gregorian => Switch::At(0),
         Calendar::Reforming(r) => {
             let day = raised(r) as u64 + 782_219_326_294;
-            if day < 784_368_640_634 {
+            if day < FIRST_REFORMATION {
                 return Switch::MadeUp;
             }
-            if 786_514_249_530 < day {
+            if LAST_REFORMATION < day {
                 return Switch::MadeUp;
             }
             Switch::At(day)
@@ -200,10 +205,10 @@ impl Calendar {
         if day < 782_219_370_428 {
             return refused_reformation(2, r);
         }
-        if day < 784_368_640_634 {
+        if day < FIRST_REFORMATION {
             return refused_reformation(1, r);
         }
-        if 786_514_249_530 < day {
+        if LAST_REFORMATION < day {
             return refused_reformation(2, r);
         }
         Reformed::Calendar(Calendar::Reforming(r))

@@ -31,15 +31,20 @@ pub fn on_day(calendar: Calendar, switch: u64, jdn: i32) -> Date
     ensures { λ d. ⌜ IsRecord calendar jdn d ⌝ }
 {
     let x = whole::raised(jdn);
-    let held = x as u64 + 782_219_326_294;
-    if held < switch {
+    let today = x as u64 + 782_219_326_294;
+    if today < switch {
         let old = inner::julian_place(x);
-        let s = spot_at(held, old.year, old.ordinal, inner::is_julian_leap(old.year));
+        let s = spot_at(
+            today,
+            old.year,
+            old.ordinal,
+            inner::is_julian_leap(old.year),
+        );
         return record_of(calendar, switch, s, jdn);
     }
     let new = inner::gregorian_place(x);
     let s = spot_at(
-        held,
+        today,
         new.year,
         new.ordinal,
         inner::is_gregorian_leap(new.year),

@@ -21,3 +21,4 @@ pub mod Table
 pub mod Runs
 pub mod Weekdays
 pub mod KnownDays
+pub mod Years

@@ -19,11 +19,11 @@ jdn-is c = held-day (c .raised .result) ∙ c .raised .ensures ∙ toZ-ofZ (c .b
 raised-requires : tie.Need-raised-requires
 raised-requires c κs = search needs
 
-cast-held : tie.Need-cast-held
-cast-held c = search needs
+cast-today : tie.Need-cast-today
+cast-today c = search needs
 
-add-held : tie.Need-add-held
-add-held c = search needs
+add-today : tie.Need-add-today
+add-today c = search needs
 
 julian-place-requires : tie.Need-julian-place-requires
 julian-place-requires c κs = search needs
@@ -74,8 +74,8 @@ on-day-spec =
     tie.close
     (tie.spec
     raised-requires
-    cast-held
-    add-held
+    cast-today
+    add-today
     julian-place-requires
     is-julian-leap-requires
     spot-at-requires

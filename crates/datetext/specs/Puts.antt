@@ -1,0 +1,271 @@
+-- Texts put into a buffer: one after another, a byte, and digits from the last to the first; and what a writer that has done so promises.
+-- Assumes nothing.
+use Prim.Native.Nat.{ℕ, suc, _+_, _-_, _/_, _%_, _≤_, _<_}
+use mathlib.Core.Path.{_≡_, sym, _∙_, ap, ap₂, subst}
+use mathlib.Core.Bool.{Bool, true, false}
+use mathlib.Core.List.{List, [], _∷_, _++_, append-assoc}
+use native.Mathlib.Nat.{add-zero}
+use native.Mathlib.Omega.{arith}
+use lib.ListN.{length, take, drop, set, length-set, length-append, length-take, length-drop, take-append-drop}
+use lib.Seq.{take-set-le, drop-set-lt, drop-cons, getD-set-same, take-at, drop-append-add, drop-drop, length-take-le}
+use lib.Dec.{leb}
+use mathlib.Core.Logic.{⊎-elim}
+use borrow.Author.Tests.{le-leb, lt-leb, leb-true, leb-false}
+use Rattle.whole.specs.Tests.{lt-or-ge}
+use lib.IntN.{ℤ, pos, negsuc, natAbs}
+use Rattle.calendar.specs.declared.Refusal.{Refusal}
+use Rattle.whole.specs.Edge.{isNegative}
+use Rattle.numbertext.specs.Numerals.{dash, refusal}
+use Rattle.datetext.specs.Writing.{Decimal, WholeDecimal, YmdDecimal, put, Puts, Writes, PutNumber, PutWhole, WriteYmd}
+use Rattle.datetext.specs.Decimals.{digitsOf, length-digits, Width, decimal-of}
+use Rattle.datetext.specs.declared.Written.{Written}
+
+-- ---- a buffer
+
+pub put-none : (b : List ℕ) (i : ℕ) → put b i [] ≡ b
+put-none b i = ap (λ (k : ℕ). take i b ++ drop k b) (add-zero i) ∙ take-append-drop i b
+
+pub length-put : (b : List ℕ) (i : ℕ) (t : List ℕ) → i + length t ≤ length b → length (put b i t) ≡ length b
+length-put b i t h = simp (length-append, length-take, length-drop) (omega arith)
+
+-- a text, and another after it
+module _ (b : List ℕ) (i : ℕ) (t u : List ℕ) (h : i + length t ≤ length b) where
+  put-as : put b i t ≡ (take i b ++ t) ++ drop (i + length t) b
+  put-as = sym (append-assoc (take i b) t (drop (i + length t) b))
+
+  put-long : length (take i b ++ t) ≡ i + length t
+  put-long = length-append (take i b) t ∙ ap (λ (k : ℕ). k + length t) (length-take-le i b (omega arith))
+
+  after-both : i + length t + length u ≡ i + length (t ++ u)
+  after-both = omega (arith, length-append t u)
+
+  pub put-then : put (put b i t) (i + length t) u ≡ put b i (t ++ u)
+  put-then =
+      ap₂ (λ (x y : List ℕ). x ++ (u ++ y))
+      (ap (take (i + length t)) put-as ∙ take-at (take i b ++ t) (drop (i + length t) b) (i + length t) put-long)
+      (ap (drop (i + length t + length u)) put-as
+      ∙ ap (λ (k : ℕ). drop (k + length u) ((take i b ++ t) ++ drop (i + length t) b)) (sym put-long)
+      ∙ drop-append-add (take i b ++ t) (drop (i + length t) b) (length u)
+      ∙ drop-drop (length u) (i + length t) b
+      ∙ ap (λ (k : ℕ). drop k b) after-both)
+      ∙ append-assoc (take i b) t (u ++ drop (i + length (t ++ u)) b)
+      ∙ ap (λ (x : List ℕ). take i b ++ x) (sym (append-assoc t u (drop (i + length (t ++ u)) b)))
+
+-- a byte after a text: it may be put there first
+module _ (b : List ℕ) (i : ℕ) (t : List ℕ) (x : ℕ) (h : i + length t < length b) where
+  after : drop (i + length t) (set b (i + length t) x) ≡ x ∷ drop (i + length (t ++ (x ∷ []))) b
+  after =
+      drop-cons (set b (i + length t) x) (i + length t) 0 (subst (λ (k : ℕ). i + length t < k) (sym (length-set b (i + length t) x)) h)
+      ∙ ap₂ (λ (y : ℕ) (l : List ℕ). y ∷ l) (getD-set-same b (i + length t) x 0 h)
+      (drop-set-lt (suc (i + length t)) b (i + length t) x (omega arith) ∙ ap (λ (k : ℕ). drop k b) one-on)
+    where
+      one-on : suc (i + length t) ≡ i + length (t ++ (x ∷ []))
+      one-on = omega (arith, length-append t (x ∷ []))
+
+  pub put-before : put (set b (i + length t) x) i t ≡ put b i (t ++ (x ∷ []))
+  put-before =
+      ap₂ (λ (u w : List ℕ). u ++ (t ++ w)) (take-set-le i b (i + length t) x (omega arith)) after
+      ∙ ap (λ (l : List ℕ). take i b ++ l) (sym (append-assoc t (x ∷ []) (drop (i + length (t ++ (x ∷ []))) b)))
+
+pub put-byte : (b : List ℕ) (i x : ℕ) → i < length b → set b i x ≡ put b i (x ∷ [])
+put-byte b i x h =
+    sym (put-none (set b i x) i) ∙ ap (λ (k : ℕ). put (set b k x) i []) (sym (add-zero i)) ∙ put-before b i [] x (omega arith)
+
+-- ---- the loop that puts digits from the last to the first: what is still to be put takes b to the whole
+
+pub record Filling (b₀ : List ℕ) (at k n : ℕ) (b : List ℕ) (left rest : ℕ) : Type 0 where
+  pub len : length b ≡ length b₀
+  pub room : at + left ≤ length b
+  pub same : put b at (digitsOf left rest) ≡ put b₀ at (digitsOf k n)
+
+module _ {b₀ : List ℕ} {at k n : ℕ} {b : List ℕ} {left rest : ℕ} (f : Filling b₀ at k n b left rest) where
+  pub filling-step : 0 < left → Filling b₀ at k n (set b (at + (left - 1)) (48 + rest % 10)) (left - 1) (rest / 10)
+  filling-step h =
+      record {
+        len = length-set b (at + (left - 1)) (48 + rest % 10) ∙ f .len;
+        room = subst (λ (i : ℕ). at + (left - 1) ≤ i) (sym (length-set b (at + (left - 1)) (48 + rest % 10))) (omega (arith, f .room));
+        same = put-one ∙ sym (ap (λ (i : ℕ). put b at (digitsOf i rest)) one-more) ∙ f .same;
+      }
+    where
+      one-more : left ≡ suc (left - 1)
+      one-more = omega arith
+
+      long : length (digitsOf (left - 1) (rest / 10)) ≡ left - 1
+      long = length-digits (left - 1) (rest / 10)
+
+      put-one : put (set b (at + (left - 1)) (48 + rest % 10)) at (digitsOf (left - 1) (rest / 10)) ≡ put b at (digitsOf (suc (left - 1)) rest)
+      put-one =
+          ap (λ (i : ℕ). put (set b (at + i) (48 + rest % 10)) at (digitsOf (left - 1) (rest / 10))) (sym long)
+          ∙ put-before b at (digitsOf (left - 1) (rest / 10)) (48 + rest % 10) (omega (arith, long, f .room))
+
+  pub filling-done : left ≤ 0 → b ≡ put b₀ at (digitsOf k n)
+  filling-done h = let z : left ≡ 0 = omega arith in sym (put-none b at) ∙ sym (ap (λ (i : ℕ). put b at (digitsOf i rest)) z) ∙ f .same
+
+-- ---- a number with its sign, which has k digits
+
+abbrev pub wholeText : Bool → ℕ → ℕ → List ℕ
+wholeText true k n = dash ∷ digitsOf k n
+wholeText false k n = digitsOf k n
+
+abbrev pub wholeWidth : Bool → ℕ → ℕ
+wholeWidth true k = k + 1
+wholeWidth false k = k
+
+pub length-whole : (neg : Bool) (k n : ℕ) → length (wholeText neg k n) ≡ wholeWidth neg k
+length-whole true k n = omega (arith, length-digits k n)
+length-whole false k n = length-digits k n
+
+-- what it is the text of
+pub whole-text : (x : ℤ) (k : ℕ) → Width (natAbs x) k → WholeDecimal (wholeText (isNegative x) k (natAbs x)) x
+whole-text (pos n) k w = WholeDecimal.not-negative (decimal-of w)
+whole-text (negsuc n) k w = WholeDecimal.negative (decimal-of w)
+
+-- ---- a date, with the widths of its numbers
+
+abbrev pub ymdText : Bool → ℕ → ℕ → ℕ → ℕ → ℕ → ℕ → List ℕ
+ymdText neg ky n km m kd d = wholeText neg ky n ++ (dash ∷ (digitsOf km m ++ (dash ∷ digitsOf kd d)))
+
+pub length-ymd : (neg : Bool) (ky n km m kd d : ℕ) → length (ymdText neg ky n km m kd d) ≡ wholeWidth neg ky + km + kd + 2
+length-ymd neg ky n km m kd d =
+    length-append (wholeText neg ky n) (dash ∷ (digitsOf km m ++ (dash ∷ digitsOf kd d)))
+    ∙ omega (arith, length-whole neg ky n, length-append (digitsOf km m) (dash ∷ digitsOf kd d), length-digits km m, length-digits kd d)
+
+pub ymd-text : (y : ℤ) (m d ky km kd : ℕ) → Width (natAbs y) ky → Width m km → Width d kd → YmdDecimal (ymdText (isNegative y) ky (natAbs y) km m kd d) y m d
+ymd-text y m d ky km kd wy wm wd = YmdDecimal.ymd-decimal (whole-text y ky wy) (decimal-of wm) (decimal-of wd)
+
+-- ---- texts one after the other, from a place of b on
+
+pub record So (b : List ℕ) (at : ℕ) (t b′ : List ℕ) (i : ℕ) : Type 0 where
+  pub is : b′ ≡ put b at t
+  pub place : i ≡ at + length t
+
+pub so-on : {b : List ℕ} {at : ℕ} {t b′ : List ℕ} {i : ℕ} → So b at t b′ i → (u : List ℕ) {c : List ℕ} {j : ℕ} → at + length t + length u ≤ length b → So b′ i u c j → So b at (t ++ u) c j
+so-on {b} {at} {t} {b′} {i} s u {c} {j} h r =
+    record {
+      is = r .is ∙ ap₂ (λ (x : List ℕ) (k : ℕ). put x k u) (s .is) (s .place) ∙ put-then b at t u (omega arith);
+      place = r .place ∙ omega (arith, s .place, length-append t u);
+    }
+
+-- ---- what a writer promises
+
+pub wrote : {IsText : List ℕ → Type 0} {b b′ t : List ℕ} {at i : ℕ} → IsText t → at + length t ≤ length b → So b at t b′ i → Writes IsText b at b′ (Written.Done i)
+wrote {IsText} {b} {b′} {t} {at} {i} x h s =
+    Writes.writes x (subst (λ (l : List ℕ). Puts t b at l (Written.Done i)) (sym (s .is)) (subst (λ (k : ℕ). Puts t b at (put b at t) (Written.Done k)) (sym (s .place)) (Puts.done h)))
+
+pub left-alone : {IsText : List ℕ → Type 0} {b : List ℕ} {at k : ℕ} {f : Refusal} (t : List ℕ) → IsText t → k ≡ length t → length b < at + length t → f ≡ refusal 18 0 (pos k)
+    → Writes IsText b at b (Written.Refused f)
+left-alone {b = b} {at = at} t x e h g =
+    Writes.writes x (subst (λ (f : Refusal). Puts t b at b (Written.Refused f)) (sym (g ∙ ap (λ (k : ℕ). refusal 18 0 (pos k)) e)) (Puts.short h))
+
+-- ---- what the parts of a date come to, one after the other
+
+pub so-signed : (k n : ℕ) {b : List ℕ} {at : ℕ} {b₁ b₂ : List ℕ} {i j : ℕ} {neg : Bool} → neg ≡ true → at + wholeWidth neg k ≤ length b
+    → So b at (dash ∷ []) b₁ i → So b₁ i (digitsOf k n) b₂ j → So b at (wholeText neg k n) b₂ j
+so-signed k n {b} {at} {b₂ = b₂} {j = j} {neg = neg} e h s r =
+    subst (λ (t : Bool). So b at (wholeText t k n) b₂ j) (sym e)
+    (so-on s (digitsOf k n) (omega (arith, ap (λ (t : Bool). wholeWidth t k) e, length-digits k n)) r)
+
+pub so-plain : (k n : ℕ) {b : List ℕ} {at : ℕ} {b₁ : List ℕ} {i : ℕ} {neg : Bool} → neg ≡ false → So b at (digitsOf k n) b₁ i → So b at (wholeText neg k n) b₁ i
+so-plain k n {b} {at} {b₁} {i} e s = subst (λ (t : Bool). So b at (wholeText t k n) b₁ i) (sym e) s
+
+-- a year, a dash, a month, a dash and a day
+module _ (neg : Bool) (ky n km m kd d : ℕ) {b b₁ b₂ b₃ b₄ b₅ : List ℕ} {i₁ i₂ i₃ i₄ i₅ : ℕ} (h : wholeWidth neg ky + km + kd + 2 ≤ length b)
+    (s₁ : So b 0 (wholeText neg ky n) b₁ i₁) (s₂ : So b₁ i₁ (dash ∷ []) b₂ i₂) (s₃ : So b₂ i₂ (digitsOf km m) b₃ i₃)
+    (s₄ : So b₃ i₃ (dash ∷ []) b₄ i₄) (s₅ : So b₄ i₄ (digitsOf kd d) b₅ i₅) where
+  pub so-ymd : So b 0 (ymdText neg ky n km m kd d) b₅ i₅
+  so-ymd =
+      subst (λ (t : List ℕ). So b 0 t b₅ i₅) whole-of
+      (so-on (so-on (so-on (so-on s₁ (dash ∷ []) (omega (arith, w)) s₂) (digitsOf km m) (omega (arith, w, l₂, lm)) s₃) (dash ∷ []) (omega (arith, w, l₂, l₃, lm)) s₄)
+      (digitsOf kd d) (omega (arith, w, l₂, l₃, l₄, lm, ld)) s₅)
+    where
+      w : length (wholeText neg ky n) ≡ wholeWidth neg ky
+      w = length-whole neg ky n
+
+      lm : length (digitsOf km m) ≡ km
+      lm = length-digits km m
+
+      ld : length (digitsOf kd d) ≡ kd
+      ld = length-digits kd d
+
+      t₂ : List ℕ
+      t₂ = wholeText neg ky n ++ (dash ∷ [])
+
+      t₃ : List ℕ
+      t₃ = t₂ ++ digitsOf km m
+
+      l₂ : length t₂ ≡ length (wholeText neg ky n) + 1
+      l₂ = length-append (wholeText neg ky n) (dash ∷ [])
+
+      l₃ : length t₃ ≡ length t₂ + length (digitsOf km m)
+      l₃ = length-append t₂ (digitsOf km m)
+
+      l₄ : length (t₃ ++ (dash ∷ [])) ≡ length t₃ + 1
+      l₄ = length-append t₃ (dash ∷ [])
+
+      whole-of : (t₃ ++ (dash ∷ [])) ++ digitsOf kd d ≡ ymdText neg ky n km m kd d
+      whole-of = simp append-assoc
+
+-- ---- the text of a sign and a magnitude, whatever its width
+
+pub data Signs (neg : Bool) (n : ℕ) : List ℕ → Type 0 where
+  signs : {k : ℕ} → Width n k → Signs neg n (wholeText neg k n)
+
+writes-as : {P Q : List ℕ → Type 0} {b b′ : List ℕ} {at : ℕ} {r : Written} → ((t : List ℕ) → P t → Q t) → Writes P b at b′ r → Writes Q b at b′ r
+writes-as f (Writes.writes {t} x h) = Writes.writes (f t x) h
+
+pub as-number : {n : ℕ} {b b′ : List ℕ} {at : ℕ} {r : Written} → Writes (Signs false n) b at b′ r → PutNumber n b at b′ r
+as-number {n} = writes-as by
+  where
+    by : (t : List ℕ) → Signs false n t → Decimal t n
+    by t (Signs.signs w) = decimal-of w
+
+pub as-whole : {x : ℤ} {neg : Bool} {n : ℕ} {b b′ : List ℕ} {at : ℕ} {r : Written} → neg ≡ isNegative x → n ≡ natAbs x → Writes (Signs neg n) b at b′ r → PutWhole x b at b′ r
+as-whole {x} {neg} {n} e h = writes-as (λ t s. by t (subst (λ (i : ℕ). Signs (isNegative x) i t) h (subst (λ (u : Bool). Signs u n t) e s)))
+  where
+    by : (t : List ℕ) → Signs (isNegative x) (natAbs x) t → WholeDecimal t x
+    by t (Signs.signs {k} w) = whole-text x k w
+
+-- ---- the tests of the code
+
+pub room-test : (len at size : ℕ) → at ≤ len → leb size (len - at) ≡ leb (at + size) len
+room-test len at size h = ⊎-elim
+    (λ k. lt-leb size (len - at) (omega arith) ∙ sym (lt-leb (at + size) len k))
+    (λ k. le-leb size (len - at) (omega arith) ∙ sym (le-leb (at + size) len k))
+    (lt-or-ge len (at + size))
+
+pub no-room-test : (len at size : ℕ) → len < at → false ≡ leb (at + size) len
+no-room-test len at size h = sym (lt-leb (at + size) len (omega arith))
+
+-- a number that has room, or not, where `room` is the test
+module _ (neg : Bool) (n k size at : ℕ) (b : List ℕ) {room : Bool} (w : Width n k) (s : size ≡ wholeWidth neg k) (test : room ≡ leb (at + size) (length b)) where
+  pub room-for : room ≡ true → at + wholeWidth neg k ≤ length b
+  room-for e = subst (λ (i : ℕ). at + i ≤ length b) s (leb-true (at + size) (length b) (sym test ∙ e))
+
+  pub signed-wrote : room ≡ true → {b′ : List ℕ} {i : ℕ} → So b at (wholeText neg k n) b′ i → Writes (Signs neg n) b at b′ (Written.Done i)
+  signed-wrote e r = wrote (Signs.signs w) (subst (λ (j : ℕ). at + j ≤ length b) (sym (length-whole neg k n)) (room-for e)) r
+
+  pub signed-left : room ≡ false → {f : Refusal} → f ≡ refusal 18 0 (pos size) → Writes (Signs neg n) b at b (Written.Refused f)
+  signed-left e g =
+      let t : size ≡ length (wholeText neg k n) = s ∙ sym (length-whole neg k n) in
+      left-alone (wholeText neg k n) (Signs.signs w) t (subst (λ (j : ℕ). length b < at + j) t (leb-false (at + size) (length b) (sym test ∙ e))) g
+
+-- a date, whose year has the sign neg and the magnitude n
+module _ (y : ℤ) (m d : ℕ) {neg : Bool} {n ky km kd w : ℕ} (e : neg ≡ isNegative y) (a : n ≡ natAbs y) (wy : Width n ky) (wm : Width m km) (wd : Width d kd)
+    (s : w ≡ wholeWidth neg ky) (b : List ℕ) where
+  text-is : YmdDecimal (ymdText neg ky n km m kd d) y m d
+  text-is =
+      subst (λ (t : Bool). YmdDecimal (ymdText t ky n km m kd d) y m d) (sym e)
+      (subst (λ (i : ℕ). YmdDecimal (ymdText (isNegative y) ky i km m kd d) y m d) (sym a)
+      (ymd-text y m d ky km kd (subst (λ (i : ℕ). Width i ky) a wy) wm wd))
+
+  size-is : w + km + kd + 2 ≡ length (ymdText neg ky n km m kd d)
+  size-is = ap (λ (i : ℕ). i + km + kd + 2) s ∙ sym (length-ymd neg ky n km m kd d)
+
+  pub ymd-left : length b < w + km + kd + 2 → {f : Refusal} → f ≡ refusal 18 0 (pos (w + km + kd + 2)) → WriteYmd y m d b b (Written.Refused f)
+  ymd-left h g = left-alone (ymdText neg ky n km m kd d) text-is size-is (omega (arith, size-is)) g
+
+  pub ymd-room : w + km + kd + 2 ≤ length b → wholeWidth neg ky + km + kd + 2 ≤ length b
+  ymd-room h = subst (λ (i : ℕ). i + km + kd + 2 ≤ length b) s h
+
+  pub ymd-wrote : w + km + kd + 2 ≤ length b → {b′ : List ℕ} {i : ℕ} → So b 0 (ymdText neg ky n km m kd d) b′ i → WriteYmd y m d b b′ (Written.Done i)
+  ymd-wrote h r = wrote text-is (omega (arith, size-is)) r

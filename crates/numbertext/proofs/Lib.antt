@@ -1,0 +1,2 @@
+-- The walk that the three reads of a reader share.
+pub mod Moving

@@ -1,0 +1,20 @@
+-- `numbertext::after_signed` meets its contract: each arm is given which answer it has, and `afterSigned` computes there.
+-- Assumes nothing.
+use borrow.Author.Needs.{needs}
+use Rattle.numbertext.proofs.after_signed.Statement.{statement}
+use Rattle.numbertext.proofs.after_signed.Tie as tie
+
+enum-known-x : tie.Need-enum-known-x
+enum-known-x c = search needs
+
+enum-told : tie.Need-enum-told
+enum-told c = search needs
+
+returns : tie.Need-returns
+returns c = search needs
+
+returns-2 : tie.Need-returns-2
+returns-2 c = search needs
+
+pub after-signed-spec : {M : Type 1} → statement M
+after-signed-spec = tie.close (tie.spec enum-known-x enum-told returns returns-2)

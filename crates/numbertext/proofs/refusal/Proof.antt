@@ -1,0 +1,17 @@
+-- `numbertext::refusal` meets its contract: a value that was counted is read back from its bits.
+-- Assumes nothing.
+use mathlib.Core.Path.{ap, _∙_}
+use mir.Facts.{toZ-ofZ}
+use borrow.Author.Needs.{needs, sfits-of}
+use Rattle.numbertext.specs.Numerals.{refusal}
+use Rattle.numbertext.proofs.refusal.Statement.{statement}
+use Rattle.numbertext.proofs.refusal.Tie as tie
+
+counted-requires : tie.Need-counted-requires
+counted-requires c κs = search needs
+
+returns : tie.Need-returns
+returns c = ap (refusal _ _) (toZ-ofZ (sfits-of (c .counted .ok)) ∙ c .counted .ensures)
+
+pub refusal-spec : {M : Type 1} → statement M
+refusal-spec = tie.close (tie.spec counted-requires returns)

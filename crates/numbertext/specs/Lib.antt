@@ -1,0 +1,6 @@
+-- Numbers in text: what they are (`Numerals`), what the calls promise (`Promise`), the same by computing (`Reading`), and that both agree (`Meaning`).
+pub mod Numerals
+pub mod Promise
+pub mod Reading
+pub mod Digits
+pub mod Meaning

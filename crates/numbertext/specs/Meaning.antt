@@ -1,0 +1,331 @@
+-- What `Reading` computes is what `Numerals` and `Promise` say, both ways: the computed answer is right (`sound`), and a right answer is the
+-- computed one (`complete`). So two answers that a promise allows are one (`one`).
+-- Assumes nothing.
+use Prim.Native.Nat.{ℕ, _+_, _-_, _≤_, _<_}
+use mathlib.Core.Path.{_≡_, refl, sym, _∙_, ap, ap₂, subst}
+use mathlib.Core.Bool.{Bool, true, false}
+use mathlib.Core.List.{List, [], _∷_, _++_, append-assoc}
+use native.Mathlib.Omega.{arith}
+use lib.ListN.{length, drop, length-append}
+use lib.IntN.{ℤ, pos, negℤ}
+use lib.Dec.{leb, ltb, eqb}
+use borrow.Author.Tests.{leb-true, leb-false, ltb-true, ltb-false, ne-eqb, eqb-true, eqb-false}
+use denote.Ref.{RefT}
+use Rattle.calendar.specs.declared.Refusal.{Refusal}
+use Rattle.whole.specs.Edge.{signedOf}
+use Rattle.numbertext.specs.Numerals.{plus, dash, valueOf, refusal, Digits, Numeral, Signed, Stops, NoNumber, NoSigned, NoDash}
+use Rattle.numbertext.specs.Promise.{NumberFrom, SignedFrom, DashFrom, EndFrom, At, NumberAt, SignedAt, DashAt, EndAt, afterNumber, afterSigned, afterDash, Moves}
+use Rattle.numbertext.specs.Reading.{pick, isDigit, front, runFrom, runOf, placed, noNumber, toNumber, readNumber, theNumber, limitOf, toSigned, signedRun, readSigned, theSigned, readDash, theDash, readEnd, theEnd}
+use Rattle.numbertext.specs.Digits.{pick-no, digit-is, is-digit, digit-not, not-digit, front-yes, front-no, run-empty, run-value, run-over, placed-past, placed-in}
+use Rattle.numbertext.specs.declared.Run.{Run}
+use Rattle.numbertext.specs.declared.Number.{Number}
+use Rattle.numbertext.specs.declared.SignedNumber.{SignedNumber}
+use Rattle.numbertext.specs.declared.Dash.{Dash}
+use Rattle.numbertext.specs.declared.End.{End}
+use Rattle.numbertext.specs.declared.Reader.{Reader}
+
+-- ---- the digits that come first, and what comes after them
+
+abbrev back : List ℕ → List ℕ
+back [] = []
+back (b ∷ s) = pick (isDigit b) (back s) (b ∷ s)
+
+front-digits : (s : List ℕ) → Digits (front s)
+front-digits [] = Digits.none
+front-digits (b ∷ s) = go (isDigit b) refl (front-digits s)
+  where
+    go : (t : Bool) → isDigit b ≡ t → Digits (front s) → Digits (pick t (b ∷ front s) [])
+    go true e ds = Digits.more (digit-is b e) ds
+    go false e ds = Digits.none
+
+front-back : (s : List ℕ) → front s ++ back s ≡ s
+front-back [] = refl
+front-back (b ∷ s) = go (isDigit b) (front-back s)
+  where
+    go : (t : Bool) → front s ++ back s ≡ s → pick t (b ∷ front s) [] ++ pick t (back s) (b ∷ s) ≡ b ∷ s
+    go true ih = ap (λ (x : List ℕ). b ∷ x) ih
+    go false ih = refl
+
+back-stops : (s : List ℕ) → Stops (back s)
+back-stops [] = Stops.ended
+back-stops (b ∷ s) = go (isDigit b) refl (back-stops s)
+  where
+    go : (t : Bool) → isDigit b ≡ t → Stops (back s) → Stops (pick t (back s) (b ∷ s))
+    go true e ih = ih
+    go false e ih = Stops.other (digit-not b e)
+
+stops-front : {u : List ℕ} → Stops u → front u ≡ []
+stops-front Stops.ended = refl
+stops-front (Stops.other {b} {u} h) = front-no b u (not-digit b h)
+
+digits-front : {p u : List ℕ} → Digits p → Stops u → front (p ++ u) ≡ p
+digits-front Digits.none st = stops-front st
+digits-front {p} {u} (Digits.more {b} {s} d ds) st = front-yes b (s ++ u) (is-digit d) ∙ ap (λ (x : List ℕ). b ∷ x) (digits-front ds st)
+
+-- ---- a run
+
+data RunView (limit at : ℕ) (u : List ℕ) : Run → Type 0 where
+  empty : Stops u → RunView limit at u Run.Empty
+  value : {p v : List ℕ} {n : ℕ} → u ≡ p ++ v → Numeral p n → Stops v → n ≤ limit → RunView limit at u (Run.Value n (at + length p))
+  over : {p v : List ℕ} {n : ℕ} → u ≡ p ++ v → Numeral p n → Stops v → limit < n → RunView limit at u Run.Over
+
+run-view : (limit at : ℕ) (u : List ℕ) → RunView limit at u (runOf limit at u)
+unfolding runFrom
+run-view limit at u = go (front u) refl
+  where
+    go : (p : List ℕ) → front u ≡ p → RunView limit at u (runFrom limit at p)
+    go [] e = RunView.empty (subst Stops (sym (ap (λ (x : List ℕ). x ++ back u) e) ∙ front-back u) (back-stops u))
+    go (b ∷ p) e = judge (leb (valueOf (b ∷ p)) limit) refl
+      where
+        parted : u ≡ (b ∷ p) ++ back u
+        parted = sym (sym (ap (λ (x : List ℕ). x ++ back u) e) ∙ front-back u)
+
+        written : Numeral (b ∷ p) (valueOf (b ∷ p))
+        written = record { some = omega arith; digits = subst Digits e (front-digits u); writes = refl }
+
+        judge : (t : Bool) → leb (valueOf (b ∷ p)) limit ≡ t → RunView limit at u (pick t (Run.Value (valueOf (b ∷ p)) (at + length (b ∷ p))) Run.Over)
+        judge true h = RunView.value parted written (back-stops u) (leb-true _ _ h)
+        judge false h = RunView.over parted written (back-stops u) (leb-false _ _ h)
+
+module _ (limit at : ℕ) where
+  run-none : {u : List ℕ} → Stops u → runOf limit at u ≡ Run.Empty
+  run-none st = ap (runFrom limit at) (stops-front st) ∙ run-empty limit at
+
+  module _ {p u : List ℕ} {n : ℕ} (w : Numeral p n) (st : Stops u) where
+    run-is : n ≤ limit → runOf limit at (p ++ u) ≡ Run.Value n (at + length p)
+    run-is h =
+        ap (runFrom limit at) (digits-front (w .digits) st)
+        ∙ run-value limit at p (w .some) (subst (λ (k : ℕ). k ≤ limit) (sym (w .writes)) h)
+        ∙ ap (λ (k : ℕ). Run.Value k (at + length p)) (w .writes)
+
+    run-large : limit < n → runOf limit at (p ++ u) ≡ Run.Over
+    run-large h = ap (runFrom limit at) (digits-front (w .digits) st) ∙ run-over limit at p (subst (λ (k : ℕ). limit < k) (sym (w .writes)) h)
+
+-- ---- an unsigned number
+
+none-number : (at : ℕ) {u : List ℕ} → Stops u → NoNumber at u (noNumber at u)
+none-number at Stops.ended = NoNumber.ended
+none-number at (Stops.other h) = NoNumber.other h
+
+pub number-sound : (at : ℕ) (u : List ℕ) → NumberFrom at u (readNumber at u)
+unfolding readNumber
+number-sound at u = by (run-view 4294967295 at u)
+  where
+    by : {r : Run} → RunView 4294967295 at u r → NumberFrom at u (toNumber at u r)
+    by (RunView.empty st) = NumberFrom.no-number (none-number at st)
+    by (RunView.value {p} {n = n} e w st h) =
+        subst (λ (x : List ℕ). NumberFrom at x (Number.Value n (at + length p))) (sym e) (NumberFrom.number (record { numeral = w; fits = omega arith }) st)
+    by (RunView.over e w st h) =
+        NumberFrom.no-number (subst (λ (x : List ℕ). NoNumber at x (refusal 11 at (pos 0))) (sym e) (NoNumber.large w st (omega arith)))
+
+pub number-complete : {at : ℕ} {u : List ℕ} {r : Number} → NumberFrom at u r → readNumber at u ≡ r
+unfolding readNumber
+number-complete {at} (NumberFrom.number {p} {u} w st) = ap (toNumber at (p ++ u)) (run-is 4294967295 at (w .numeral) st (omega (arith, w .fits)))
+number-complete {at} (NumberFrom.no-number h) = by h
+  where
+    by : {u : List ℕ} {f : Refusal} → NoNumber at u f → toNumber at u (runOf 4294967295 at u) ≡ Number.Refused f
+    by NoNumber.ended = ap (toNumber at []) (run-none 4294967295 at Stops.ended)
+    by (NoNumber.other {b} {u} h) = ap (toNumber at (b ∷ u)) (run-none 4294967295 at (Stops.other {b = b} {u = u} h))
+    by (NoNumber.large {p} {u} w st h) = ap (toNumber at (p ++ u)) (run-large 4294967295 at w st (omega arith))
+
+-- ---- a signed number
+
+-- the bytes c are the sign or none; what a numeral after them means is given: it fits, or is too large, or there is no digit
+module _ (neg : Bool) (at : ℕ) (c : List ℕ) (first : ℕ) (here : first ≡ at + length c) (none : Refusal)
+    (small : (p : List ℕ) (n : ℕ) → Numeral p n → n ≤ limitOf neg → Signed (c ++ p) (signedOf neg n))
+    (large : (p u : List ℕ) (n : ℕ) → Numeral p n → Stops u → limitOf neg < n → NoSigned at (c ++ (p ++ u)) (refusal 11 at (pos 0)))
+    (u : List ℕ) (bare : Stops u → NoSigned at (c ++ u) none) where
+  signed-by : {r : Run} → RunView (limitOf neg) first u r → SignedFrom at (c ++ u) (toSigned neg at none r)
+  signed-by (RunView.empty st) = SignedFrom.no-number (bare st)
+  signed-by (RunView.value {p} {v} {n} e w st h) =
+      subst (λ (x : List ℕ). SignedFrom at (c ++ x) (SignedNumber.Value (signedOf neg n) (first + length p))) (sym e)
+      (subst (λ (x : List ℕ). SignedFrom at x (SignedNumber.Value (signedOf neg n) (first + length p))) (append-assoc c p v)
+      (subst (λ (k : ℕ). SignedFrom at ((c ++ p) ++ v) (SignedNumber.Value (signedOf neg n) k)) (omega (arith, length-append c p))
+      (SignedFrom.number (small p n w h) st)))
+  signed-by (RunView.over {p} {v} {n} e w st h) =
+      SignedFrom.no-number (subst (λ (x : List ℕ). NoSigned at (c ++ x) (refusal 11 at (pos 0))) (sym e) (large p v n w st h))
+
+plain-sound : (at b : ℕ) (u : List ℕ) → (b ≡ plus → ⊥) → (b ≡ dash → ⊥) → SignedFrom at (b ∷ u) (signedRun false at at (refusal 9 at (pos b)) (b ∷ u))
+unfolding signedOf signedRun
+plain-sound at b u k l =
+    signed-by false at [] at (omega arith) (refusal 9 at (pos b)) (λ p n w h. Signed.plain w (omega arith)) (λ p v n w st h. NoSigned.large w st (omega arith))
+    (b ∷ u) bare (run-view (limitOf false) at (b ∷ u))
+  where
+    bare : Stops (b ∷ u) → NoSigned at (b ∷ u) (refusal 9 at (pos b))
+    bare (Stops.other h) = NoSigned.other h k l
+
+plus-sound : (at : ℕ) (u : List ℕ) → SignedFrom at (plus ∷ u) (signedRun false at (at + 1) (refusal 10 at (pos 0)) u)
+unfolding signedOf signedRun
+plus-sound at u =
+    signed-by false at (plus ∷ []) (at + 1) refl (refusal 10 at (pos 0)) (λ p n w h. Signed.with-plus w (omega arith))
+    (λ p v n w st h. NoSigned.large-plus w st (omega arith)) u (λ st. NoSigned.bare-plus st) (run-view (limitOf false) (at + 1) u)
+
+dash-sound′ : (at : ℕ) (u : List ℕ) → SignedFrom at (dash ∷ u) (signedRun true at (at + 1) (refusal 10 at (pos 0)) u)
+unfolding signedOf signedRun
+dash-sound′ at u =
+    signed-by true at (dash ∷ []) (at + 1) refl (refusal 10 at (pos 0)) (λ p n w h. Signed.with-dash w (omega arith))
+    (λ p v n w st h. NoSigned.large-dash w st (omega arith)) u (λ st. NoSigned.bare-dash st) (run-view (limitOf true) (at + 1) u)
+
+pub signed-sound : (at : ℕ) (u : List ℕ) → SignedFrom at u (readSigned at u)
+unfolding readSigned
+signed-sound at [] = SignedFrom.no-number NoSigned.ended
+signed-sound at (b ∷ u) = go (eqb b dash) refl
+  where
+    first : SignedNumber
+    first = signedRun true at (at + 1) (refusal 10 at (pos 0)) u
+
+    second : SignedNumber
+    second = signedRun false at (at + 1) (refusal 10 at (pos 0)) u
+
+    third : SignedNumber
+    third = signedRun false at at (refusal 9 at (pos b)) (b ∷ u)
+
+    goes : (t : Bool) → eqb b plus ≡ t → (b ≡ dash → ⊥) → SignedFrom at (b ∷ u) (pick t second third)
+    goes true e k = subst (λ (x : ℕ). SignedFrom at (x ∷ u) second) (sym (eqb-true b plus e)) (plus-sound at u)
+    goes false e k = plain-sound at b u (eqb-false b plus e) k
+
+    go : (t : Bool) → eqb b dash ≡ t → SignedFrom at (b ∷ u) (pick t first (pick (eqb b plus) second third))
+    go true e = subst (λ (x : ℕ). SignedFrom at (x ∷ u) first) (sym (eqb-true b dash e)) (dash-sound′ at u)
+    go false e = goes (eqb b plus) refl (eqb-false b dash e)
+
+-- the other way: which run it comes to
+after-dash : (at : ℕ) (u : List ℕ) → readSigned at (dash ∷ u) ≡ signedRun true at (at + 1) (refusal 10 at (pos 0)) u
+unfolding readSigned
+after-dash at u = refl
+
+after-plus : (at : ℕ) (u : List ℕ) → readSigned at (plus ∷ u) ≡ signedRun false at (at + 1) (refusal 10 at (pos 0)) u
+unfolding readSigned
+after-plus at u = refl
+
+after-none : (at b : ℕ) (u : List ℕ) → (b ≡ plus → ⊥) → (b ≡ dash → ⊥) → readSigned at (b ∷ u) ≡ signedRun false at at (refusal 9 at (pos b)) (b ∷ u)
+unfolding readSigned
+after-none at b u k l = pick-no _ _ (ne-eqb b dash l) ∙ pick-no _ _ (ne-eqb b plus k)
+
+-- a numeral begins with no sign, whatever the refusal of one without a digit would be
+after-numeral : (at : ℕ) (u : List ℕ) {p : List ℕ} {n : ℕ} {r : SignedNumber} → Numeral p n → ((none : Refusal) → signedRun false at at none (p ++ u) ≡ r) → readSigned at (p ++ u) ≡ r
+after-numeral at u w e = by (w .digits) (w .some) e
+  where
+    by : {q : List ℕ} → Digits q → 0 < length q → {r : SignedNumber} → ((none : Refusal) → signedRun false at at none (q ++ u) ≡ r) → readSigned at (q ++ u) ≡ r
+    by Digits.none h e = absurd (omega arith)
+    by (Digits.more {b} {s} d ds) h e = after-none at b (s ++ u) (λ x. omega (arith, d .low)) (λ x. omega (arith, d .low)) ∙ e (refusal 9 at (pos b))
+
+pub signed-complete : {at : ℕ} {u : List ℕ} {r : SignedNumber} → SignedFrom at u r → readSigned at u ≡ r
+unfolding signedOf readSigned signedRun
+signed-complete {at} (SignedFrom.number w st) = by w st
+  where
+    by : {p : List ℕ} {y : ℤ} → Signed p y → {u : List ℕ} → Stops u → readSigned at (p ++ u) ≡ SignedNumber.Value y (at + length p)
+    by (Signed.plain w h) {u} st = after-numeral at u w (λ none. ap (toSigned false at none) (run-is (limitOf false) at w st (omega arith)))
+    by (Signed.with-plus {p} {n} w h) {u} st =
+        after-plus at (p ++ u) ∙ ap (toSigned false at (refusal 10 at (pos 0))) (run-is (limitOf false) (at + 1) w st (omega arith)) ∙ ap (SignedNumber.Value (pos n)) (omega arith)
+    by (Signed.with-dash {p} {n} w h) {u} st =
+        after-dash at (p ++ u) ∙ ap (toSigned true at (refusal 10 at (pos 0))) (run-is (limitOf true) (at + 1) w st (omega arith)) ∙ ap (SignedNumber.Value (negℤ (pos n))) (omega arith)
+signed-complete {at} (SignedFrom.no-number h) = by h
+  where
+    by : {u : List ℕ} {f : Refusal} → NoSigned at u f → readSigned at u ≡ SignedNumber.Refused f
+    by NoSigned.ended = refl
+    by (NoSigned.other {b} {u} h k l) = after-none at b u k l ∙ ap (toSigned false at (refusal 9 at (pos b))) (run-none (limitOf false) at (Stops.other {b = b} {u = u} h))
+    by (NoSigned.bare-plus {u} st) = after-plus at u ∙ ap (toSigned false at (refusal 10 at (pos 0))) (run-none (limitOf false) (at + 1) st)
+    by (NoSigned.bare-dash {u} st) = after-dash at u ∙ ap (toSigned true at (refusal 10 at (pos 0))) (run-none (limitOf true) (at + 1) st)
+    by (NoSigned.large {u = u} w st h) = after-numeral at u w (λ none. ap (toSigned false at none) (run-large (limitOf false) at w st (omega arith)))
+    by (NoSigned.large-plus {p} {u} w st h) =
+        after-plus at (p ++ u) ∙ ap (toSigned false at (refusal 10 at (pos 0))) (run-large (limitOf false) (at + 1) w st (omega arith))
+    by (NoSigned.large-dash {p} {u} w st h) =
+        after-dash at (p ++ u) ∙ ap (toSigned true at (refusal 10 at (pos 0))) (run-large (limitOf true) (at + 1) w st (omega arith))
+
+-- ---- a `-`, and the end
+
+pub dash-sound : (at : ℕ) (u : List ℕ) → DashFrom at u (readDash at u)
+unfolding readDash
+dash-sound at [] = DashFrom.no-dash NoDash.ended
+dash-sound at (b ∷ u) = go (eqb b dash) refl
+  where
+    go : (t : Bool) → eqb b dash ≡ t → DashFrom at (b ∷ u) (pick t (Dash.Next (at + 1)) (Dash.Refused (refusal 12 at (pos b))))
+    go true e = subst (λ (x : ℕ). DashFrom at (x ∷ u) (Dash.Next (at + 1))) (sym (eqb-true b dash e)) DashFrom.a-dash
+    go false e = DashFrom.no-dash (NoDash.other (eqb-false b dash e))
+
+pub dash-complete : {at : ℕ} {u : List ℕ} {r : Dash} → DashFrom at u r → readDash at u ≡ r
+unfolding readDash
+dash-complete DashFrom.a-dash = refl
+dash-complete (DashFrom.no-dash NoDash.ended) = refl
+dash-complete (DashFrom.no-dash (NoDash.other {b} h)) = pick-no _ _ (ne-eqb b dash h)
+
+pub end-sound : (at : ℕ) (u : List ℕ) → EndFrom at u (readEnd at u)
+unfolding readEnd
+end-sound at [] = EndFrom.reached
+end-sound at (b ∷ u) = EndFrom.left-over
+
+pub end-complete : {at : ℕ} {u : List ℕ} {r : End} → EndFrom at u r → readEnd at u ≡ r
+unfolding readEnd
+end-complete EndFrom.reached = refl
+end-complete EndFrom.left-over = refl
+
+-- ---- at a place: said once for the four kinds of read
+
+module _ {A : Type 0} (refuse : Refusal → A) (From : ℕ → List ℕ → A → Type 0) (f : ℕ → List ℕ → A) where
+  at-sound : ((at : ℕ) (u : List ℕ) → From at u (f at u)) → (s : List ℕ) (at : ℕ) {r : A} → r ≡ placed refuse f s at → At refuse From s at r
+  at-sound sound s at {r} e = subst (At refuse From s at) (sym e) (go (ltb (length s) at) refl)
+    where
+      go : (t : Bool) → ltb (length s) at ≡ t → At refuse From s at (placed refuse f s at)
+      go true h = subst (At refuse From s at) (sym (placed-past refuse f s at (ltb-true _ _ h))) (At.past (ltb-true _ _ h))
+      go false h = subst (At refuse From s at) (sym (placed-in refuse f s at (ltb-false _ _ h))) (At.within (ltb-false _ _ h) (sound at (drop at s)))
+
+  at-complete : ((at : ℕ) (u : List ℕ) (r : A) → From at u r → f at u ≡ r) → {s : List ℕ} {at : ℕ} {r : A} → At refuse From s at r → placed refuse f s at ≡ r
+  at-complete complete {s} {at} (At.past h) = placed-past refuse f s at h
+  at-complete complete {s} {at} (At.within h w) = placed-in refuse f s at h ∙ complete at (drop at s) _ w
+
+module _ {s : List ℕ} {at : ℕ} where
+  pub number-meant : {r : Number} → r ≡ theNumber s at → NumberAt s at r
+  number-meant = at-sound Number.Refused NumberFrom readNumber number-sound s at
+
+  pub number-is : {r : Number} → NumberAt s at r → r ≡ theNumber s at
+  number-is h = sym (at-complete Number.Refused NumberFrom readNumber (λ at u r w. number-complete w) h)
+
+  pub number-one : {r q : Number} → NumberAt s at r → NumberAt s at q → r ≡ q
+  number-one h k = number-is h ∙ sym (number-is k)
+
+  pub signed-meant : {r : SignedNumber} → r ≡ theSigned s at → SignedAt s at r
+  signed-meant = at-sound SignedNumber.Refused SignedFrom readSigned signed-sound s at
+
+  pub signed-is : {r : SignedNumber} → SignedAt s at r → r ≡ theSigned s at
+  signed-is h = sym (at-complete SignedNumber.Refused SignedFrom readSigned (λ at u r w. signed-complete w) h)
+
+  pub signed-one : {r q : SignedNumber} → SignedAt s at r → SignedAt s at q → r ≡ q
+  signed-one h k = signed-is h ∙ sym (signed-is k)
+
+  pub dash-meant : {r : Dash} → r ≡ theDash s at → DashAt s at r
+  dash-meant = at-sound Dash.Refused DashFrom readDash dash-sound s at
+
+  pub dash-is : {r : Dash} → DashAt s at r → r ≡ theDash s at
+  dash-is h = sym (at-complete Dash.Refused DashFrom readDash (λ at u r w. dash-complete w) h)
+
+  pub dash-one : {r q : Dash} → DashAt s at r → DashAt s at q → r ≡ q
+  dash-one h k = dash-is h ∙ sym (dash-is k)
+
+  pub end-meant : {r : End} → r ≡ theEnd s at → EndAt s at r
+  end-meant = at-sound End.Refused EndFrom readEnd end-sound s at
+
+  pub end-is : {r : End} → EndAt s at r → r ≡ theEnd s at
+  end-is h = sym (at-complete End.Refused EndFrom readEnd (λ at u r w. end-complete w) h)
+
+  pub end-one : {r q : End} → EndAt s at r → EndAt s at q → r ≡ q
+  end-one h k = end-is h ∙ sym (end-is k)
+
+-- a reader's move has one answer, and leaves one reader
+moves-one : {A : Type 0} {ReadAt : List ℕ → ℕ → A → Type 0} {after : A → ℕ → ℕ} → ((s : List ℕ) (at : ℕ) (x y : A) → ReadAt s at x → ReadAt s at y → x ≡ y)
+    → {r r₁ r₂ : Reader} {x y : A} → Moves ReadAt after r r₁ x → Moves ReadAt after r r₂ y → (x ≡ y) × (r₁ ≡ r₂)
+moves-one {A} {ReadAt} {after} one {r} {r₁} {r₂} {x} {y} h k =
+    let e : x ≡ y = one _ _ x y (h .answer) (k .answer) in
+    (e, ap₂ reader (h .holds ∙ sym (k .holds)) (h .stands ∙ ap (λ (z : A). after z (r .at)) e ∙ sym (k .stands)))
+  where
+    reader : RefT (List ℕ) → ℕ → Reader
+    reader s n = record { src = s; at = n }
+
+module _ {r r₁ r₂ : Reader} where
+  pub number-move-one : {x y : Number} → Moves NumberAt afterNumber r r₁ x → Moves NumberAt afterNumber r r₂ y → (x ≡ y) × (r₁ ≡ r₂)
+  number-move-one = moves-one (λ s at x y. number-one)
+
+  pub signed-move-one : {x y : SignedNumber} → Moves SignedAt afterSigned r r₁ x → Moves SignedAt afterSigned r r₂ y → (x ≡ y) × (r₁ ≡ r₂)
+  signed-move-one = moves-one (λ s at x y. signed-one)
+
+  pub dash-move-one : {x y : Dash} → Moves DashAt afterDash r r₁ x → Moves DashAt afterDash r r₂ y → (x ≡ y) × (r₁ ≡ r₂)
+  dash-move-one = moves-one (λ s at x y. dash-one)

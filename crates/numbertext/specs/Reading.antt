@@ -1,0 +1,109 @@
+-- What is found at a place of a list of bytes, by computing, in the order of the code. `Meaning` shows that this is what `Numerals` says.
+-- Assumes nothing.
+use Prim.Native.Nat.{ℕ, _+_}
+use mathlib.Core.List.{List, [], _∷_}
+use mathlib.Core.Bool.{Bool, true, false}
+use lib.ListN.{length, drop}
+use lib.Dec.{ltb, leb, eqb}
+use lib.IntN.{pos}
+use Rattle.calendar.specs.declared.Refusal.{Refusal}
+use Rattle.whole.specs.Edge.{signedOf}
+use Rattle.numbertext.specs.Numerals.{plus, dash, valueOf, refusal}
+use Rattle.numbertext.specs.declared.Run.{Run}
+use Rattle.numbertext.specs.declared.Number.{Number}
+use Rattle.numbertext.specs.declared.SignedNumber.{SignedNumber}
+use Rattle.numbertext.specs.declared.Dash.{Dash}
+use Rattle.numbertext.specs.declared.End.{End}
+
+abbrev pub pick : {A : Type 0} → Bool → A → A → A
+pick true a b = a
+pick false a b = b
+
+abbrev pub isDigit : ℕ → Bool
+isDigit b = pick (leb 48 b) (leb b 57) false
+
+-- the digits that come first
+abbrev pub front : List ℕ → List ℕ
+front [] = []
+front (b ∷ s) = pick (isDigit b) (b ∷ front s) []
+
+-- ---- a run of digits: p are the digits, which stand at `at`
+
+unfoldable pub runFrom : ℕ → ℕ → List ℕ → Run
+runFrom limit at [] = Run.Empty
+runFrom limit at (b ∷ p) = pick (leb (valueOf (b ∷ p)) limit) (Run.Value (valueOf (b ∷ p)) (at + length (b ∷ p))) Run.Over
+
+abbrev pub runOf : ℕ → ℕ → List ℕ → Run
+runOf limit at u = runFrom limit at (front u)
+
+-- a run that wrote n and goes from `at` to i
+abbrev pub endsOf : ℕ → ℕ → ℕ → Run
+endsOf n at i = pick (eqb i at) Run.Empty (Run.Value n i)
+
+-- ---- at a place of s, what f finds in the bytes from there on; a place past the bytes is refused 16
+unfoldable pub placed : {A : Type 0} → (Refusal → A) → (ℕ → List ℕ → A) → List ℕ → ℕ → A
+placed refuse f s at = pick (ltb (length s) at) (refuse (refusal 16 0 (pos 0))) (f at (drop at s))
+
+-- the text ends where something is expected, or the place is past it
+abbrev pub endedAt : ℕ → List ℕ → ℕ → Refusal
+endedAt number s at = pick (ltb (length s) at) (refusal 16 0 (pos 0)) (refusal number at (pos 0))
+
+-- ---- an unsigned number
+
+abbrev pub noNumber : ℕ → List ℕ → Refusal
+noNumber at [] = refusal 8 at (pos 0)
+noNumber at (b ∷ u) = refusal 9 at (pos b)
+
+abbrev pub toNumber : ℕ → List ℕ → Run → Number
+toNumber at u Run.Empty = Number.Refused (noNumber at u)
+toNumber at u (Run.Value n next) = Number.Value n next
+toNumber at u Run.Over = Number.Refused (refusal 11 at (pos 0))
+
+unfoldable pub readNumber : ℕ → List ℕ → Number
+readNumber at u = toNumber at u (runOf 4294967295 at u)
+
+abbrev pub theNumber : List ℕ → ℕ → Number
+theNumber s at = placed Number.Refused readNumber s at
+
+-- ---- a signed number: neg says whether a `-` stands before the digits
+
+-- the greatest magnitude that fits
+abbrev pub limitOf : Bool → ℕ
+limitOf true = 2147483648
+limitOf false = 2147483647
+
+-- the number stands at `at`, and `none` is the refusal where there is no digit
+abbrev pub toSigned : Bool → ℕ → Refusal → Run → SignedNumber
+toSigned neg at none Run.Empty = SignedNumber.Refused none
+toSigned neg at none (Run.Value n next) = SignedNumber.Value (signedOf neg n) next
+toSigned neg at none Run.Over = SignedNumber.Refused (refusal 11 at (pos 0))
+
+-- the digits u stand at `first`
+unfoldable pub signedRun : Bool → ℕ → ℕ → Refusal → List ℕ → SignedNumber
+signedRun neg at first none u = toSigned neg at none (runOf (limitOf neg) first u)
+
+unfoldable pub readSigned : ℕ → List ℕ → SignedNumber
+readSigned at [] = SignedNumber.Refused (refusal 8 at (pos 0))
+readSigned at (b ∷ u) =
+    pick (eqb b dash) (signedRun true at (at + 1) (refusal 10 at (pos 0)) u)
+    (pick (eqb b plus) (signedRun false at (at + 1) (refusal 10 at (pos 0)) u)
+    (signedRun false at at (refusal 9 at (pos b)) (b ∷ u)))
+
+abbrev pub theSigned : List ℕ → ℕ → SignedNumber
+theSigned s at = placed SignedNumber.Refused readSigned s at
+
+-- ---- a `-`, and the end
+
+unfoldable pub readDash : ℕ → List ℕ → Dash
+readDash at [] = Dash.Refused (refusal 13 at (pos 0))
+readDash at (b ∷ u) = pick (eqb b dash) (Dash.Next (at + 1)) (Dash.Refused (refusal 12 at (pos b)))
+
+abbrev pub theDash : List ℕ → ℕ → Dash
+theDash s at = placed Dash.Refused readDash s at
+
+unfoldable pub readEnd : ℕ → List ℕ → End
+readEnd at [] = End.Reached
+readEnd at (b ∷ u) = End.Refused (refusal 14 at (pos b))
+
+abbrev pub theEnd : List ℕ → ℕ → End
+theEnd s at = placed End.Refused readEnd s at

@@ -1,0 +1,279 @@
+// Numbers in text: what stands at a place of the bytes, and a reader that goes along them. Number reading is here and nowhere else.
+// Each call answers for any bytes and any place.
+
+ghost use mathlib.Core.Path.{_≡_};
+ghost use Prim.Native.Nat.{_<_, _^_};
+ghost use lib.ListN.{drop};
+ghost use lib.IntN.{pos};
+ghost use Rattle.numbertext.specs.Numerals.{refusal as refusalOf};
+ghost use Rattle.numbertext.specs.Promise.{NumberAt, SignedAt, DashAt, EndAt, afterNumber, afterSigned, afterDash, Moves};
+ghost use Rattle.numbertext.specs.Reading.{isDigit, runOf, endsOf, endedAt, signedRun, limitOf};
+use calendar::Refusal;
+use whole::Narrowed;
+
+// What a read at a place answers: what stands there and the place after it, or why it is refused.
+pub enum Number {
+    Value(u32, usize),
+    Refused(Refusal),
+}
+
+pub enum SignedNumber {
+    Value(i32, usize),
+    Refused(Refusal),
+}
+
+pub enum Dash {
+    Next(usize),
+    Refused(Refusal),
+}
+
+// Whether the bytes end at a place.
+pub enum End {
+    Reached,
+    Refused(Refusal),
+}
+
+// A refusal about an unsigned value.
+pub fn refusal(number: u32, place: usize, value: u32) -> Refusal
+    ensures { λ r. ⌜ r ≡ refusalOf number place (pos value) ⌝ }
+{
+    let v = whole::counted(value);
+    Refusal {
+        number,
+        place,
+        value: v,
+    }
+}
+
+// A refusal about a byte.
+pub fn byte_refusal(number: u32, place: usize, b: u8) -> Refusal
+    ensures { λ r. ⌜ r ≡ refusalOf number place (pos b) ⌝ }
+{
+    refusal(number, place, b as u32)
+}
+
+// ---- a run of digits
+
+fn is_digit(b: u64) -> bool
+    ensures { λ r. ⌜ r ≡ isDigit b ⌝ }
+{
+    48 <= b && b <= 57
+}
+
+// The digits at a place: none, or the number that they write and the place after them, or they leave the range of the field.
+enum Run {
+    Empty,
+    Value(u64, usize),
+    Over,
+}
+
+// A run that goes from `at` to i and has written n.
+fn run_ends(n: u64, at: usize, i: usize) -> Run
+    ensures { λ r. ⌜ r ≡ endsOf n at i ⌝ }
+{
+    if i == at {
+        Run::Empty
+    } else {
+        Run::Value(n, i)
+    }
+}
+
+// The range is 0 to `limit`. A number only grows with its digits, so the first digit that takes it out of the range decides.
+fn run_at(s: &[u8], at: usize, limit: u64) -> Run
+    requires { ⌜ limit < 2 ^ 60 ⌝ }
+    ensures { λ r. ⌜ r ≡ runOf limit at (drop at (now (s .entry))) ⌝ }
+{
+    let mut n: u64 = 0;
+    let mut i = at;
+    while i < s.len() {
+        let b = s[i] as u64;
+        if is_digit(b) {
+            n = n * 10 + (b - 48);
+            if limit < n {
+                return Run::Over;
+            }
+            i += 1;
+        } else {
+            return run_ends(n, at, i);
+        }
+    }
+    run_ends(n, at, i)
+}
+
+// ---- what stands at a place
+
+// The text ends where something is expected, or the place is past it.
+fn ended_at(s: &[u8], at: usize, number: u32) -> Refusal
+    ensures { λ r. ⌜ r ≡ endedAt number (now (s .entry)) at ⌝ }
+{
+    if s.len() < at {
+        return refusal(16, 0, 0);
+    }
+    refusal(number, at, 0)
+}
+
+// An unsigned number of 32 bits.
+pub fn number_at(s: &[u8], at: usize) -> Number
+    ensures { λ r. ⌜ NumberAt (now (s .entry)) at r ⌝ }
+{
+    match run_at(s, at, 4_294_967_295) {
+        Run::Value(n, next) => Number::Value(n as u32, next),
+        Run::Over => Number::Refused(refusal(11, at, 0)),
+        Run::Empty => {
+            if at < s.len() {
+                Number::Refused(byte_refusal(9, at, s[at]))
+            } else {
+                Number::Refused(ended_at(s, at, 8))
+            }
+        }
+    }
+}
+
+// The greatest magnitude that fits signed 32 bits.
+fn limit(negative: bool) -> u64
+    ensures { λ r. ⌜ r ≡ limitOf negative ⌝ }
+{
+    if negative {
+        2_147_483_648
+    } else {
+        2_147_483_647
+    }
+}
+
+// The digits of a signed number stand at `first`, its first byte at `at`; `none` is the refusal where there is no digit.
+fn signed_run(s: &[u8], negative: bool, at: usize, first: usize, none: Refusal) -> SignedNumber
+    ensures { λ r. ⌜ r ≡ signedRun negative at first none (drop first (now (s .entry))) ⌝ }
+{
+    match run_at(s, first, limit(negative)) {
+        Run::Value(n, next) => match whole::signed(negative, n) {
+            Narrowed::Fits(y) => SignedNumber::Value(y, next),
+            Narrowed::Above => SignedNumber::Refused(refusal(11, at, 0)),
+            Narrowed::Below => SignedNumber::Refused(refusal(11, at, 0)),
+        },
+        Run::Over => SignedNumber::Refused(refusal(11, at, 0)),
+        Run::Empty => SignedNumber::Refused(none),
+    }
+}
+
+// A number of signed 32 bits, with a sign before it or none.
+pub fn signed_at(s: &[u8], at: usize) -> SignedNumber
+    ensures { λ r. ⌜ SignedAt (now (s .entry)) at r ⌝ }
+{
+    if at < s.len() {
+        let b = s[at];
+        if b == 45 {
+            return signed_run(s, true, at, at + 1, refusal(10, at, 0));
+        }
+        if b == 43 {
+            return signed_run(s, false, at, at + 1, refusal(10, at, 0));
+        }
+        return signed_run(s, false, at, at, byte_refusal(9, at, b));
+    }
+    SignedNumber::Refused(ended_at(s, at, 8))
+}
+
+pub fn dash_at(s: &[u8], at: usize) -> Dash
+    ensures { λ r. ⌜ DashAt (now (s .entry)) at r ⌝ }
+{
+    if at < s.len() {
+        let b = s[at];
+        if b == 45 {
+            return Dash::Next(at + 1);
+        }
+        return Dash::Refused(byte_refusal(12, at, b));
+    }
+    Dash::Refused(ended_at(s, at, 13))
+}
+
+pub fn end_at(s: &[u8], at: usize) -> End
+    ensures { λ r. ⌜ EndAt (now (s .entry)) at r ⌝ }
+{
+    if s.len() < at {
+        return End::Refused(refusal(16, 0, 0));
+    }
+    if s.len() <= at {
+        return End::Reached;
+    }
+    End::Refused(byte_refusal(14, at, s[at]))
+}
+
+// ---- a reader that holds the bytes and how far it has read
+
+// Where a reader at `at` goes on after x was read there.
+fn after_number(x: Number, at: usize) -> usize
+    ensures { λ r. ⌜ r ≡ afterNumber x at ⌝ }
+{
+    match x {
+        Number::Value(_, next) => next,
+        Number::Refused(_) => at,
+    }
+}
+
+fn after_signed(x: SignedNumber, at: usize) -> usize
+    ensures { λ r. ⌜ r ≡ afterSigned x at ⌝ }
+{
+    match x {
+        SignedNumber::Value(_, next) => next,
+        SignedNumber::Refused(_) => at,
+    }
+}
+
+fn after_dash(x: Dash, at: usize) -> usize
+    ensures { λ r. ⌜ r ≡ afterDash x at ⌝ }
+{
+    match x {
+        Dash::Next(next) => next,
+        Dash::Refused(_) => at,
+    }
+}
+
+pub struct Reader<'a> {
+    pub src: &'a [u8],
+    pub at: usize,
+}
+
+// Each read that is accepted goes past what it read; one that is refused does not move the reader.
+impl<'a> Reader<'a> {
+    pub fn new(src: &'a [u8]) -> Reader<'a>
+        ensures { λ r. ⌜ (r .src ≡ src .entry) × (r .at ≡ 0) ⌝ }
+    {
+        Reader { src, at: 0 }
+    }
+
+    pub fn number(&mut self) -> Number
+        ensures { λ x. ⌜ Moves NumberAt afterNumber (now (self .entry)) (now (self .exit)) x ⌝ }
+    {
+        let at = self.at;
+        let x = number_at(self.src, at);
+        let next = after_number(x, at);
+        self.at = next;
+        x
+    }
+
+    pub fn signed(&mut self) -> SignedNumber
+        ensures { λ x. ⌜ Moves SignedAt afterSigned (now (self .entry)) (now (self .exit)) x ⌝ }
+    {
+        let at = self.at;
+        let x = signed_at(self.src, at);
+        let next = after_signed(x, at);
+        self.at = next;
+        x
+    }
+
+    pub fn dash(&mut self) -> Dash
+        ensures { λ x. ⌜ Moves DashAt afterDash (now (self .entry)) (now (self .exit)) x ⌝ }
+    {
+        let at = self.at;
+        let x = dash_at(self.src, at);
+        let next = after_dash(x, at);
+        self.at = next;
+        x
+    }
+
+    // Whether all bytes are read: the first one left over is told.
+    pub fn end(self) -> End
+        ensures { λ x. ⌜ EndAt (now (self .entry .src)) (self .entry .at) x ⌝ }
+    {
+        end_at(self.src, self.at)
+    }
+}
