@@ -1,4 +1,4 @@
--- The text of a date, as document 01 has it: a year, `-`, a number, and then nothing (the second number is an ordinal) or `-` and a number
+-- The text of a date, as the scope has it: a year, `-`, a number, and then nothing (the second number is an ordinal) or `-` and a number
 -- (the second number is a month 1 to 12, the third a day). A year is a signed number of 32 bits, the others are unsigned ones, and leading zeros
 -- are free: `numbertext` has the numbers. Nothing here reads: each rule says of what parts a text is put together.
 -- Assumes nothing.

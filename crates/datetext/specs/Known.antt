@@ -1,4 +1,4 @@
--- The texts among document 01's known days, about the definitions: what each writes, or its first fault.
+-- The texts among the scope's known days, about the definitions: what each writes, or its first fault.
 -- Assumes nothing.
 use Prim.Native.Nat.{ℕ}
 use mathlib.Core.Path.{refl}

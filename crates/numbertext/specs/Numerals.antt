@@ -1,4 +1,4 @@
--- Numbers in text, as document 01 has them: one or more digits, leading zeros free, an optional sign before a signed one; and what
+-- Numbers in text, as the scope has them: one or more digits, leading zeros free, an optional sign before a signed one; and what
 -- refusals 8 to 13 say of a place where a number or a `-` is expected and does not stand. Nothing here reads: each rule says of what
 -- parts the bytes are put together. A byte is any number below 256, and `at` is the place of the first of the bytes in the text.
 -- Assumes nothing.

@@ -1,4 +1,4 @@
-// Reads the texts that document 01 names, and some of any bytes, and writes what each comes to: the number, place and value of a refusal, or
+// Reads the texts that the scope names, and some of any bytes, and writes what each comes to: the number, place and value of a refusal, or
 // the fields of the date and the place of the ordinal or the day.
 use datetext::Text;
 use libc::STDOUT_FILENO;
@@ -74,7 +74,7 @@ fn show(text: &[u8]) {
     answer(text);
 }
 
-// The texts of document 01.
+// The texts of the scope.
 fn known() {
     show(b"2023-13");
     show(b"2023-13x");

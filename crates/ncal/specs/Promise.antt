@@ -1,0 +1,30 @@
+-- What is promised of a name: 19, or the calendar of its row.
+-- Assumes nothing.
+use mathlib.Core.List.{List, List·Memᴰ}
+use Prim.Native.Nat.{ℕ}
+use lib.IntN.{pos}
+use Rattle.calendar.specs.Rows.{Unless}
+use Rattle.calendar.specs.Promise.{refusal}
+use Rattle.calendar.specs.declared.Calendar.{Calendar}
+use Rattle.calendar.specs.declared.Reformed.{Reformed}
+use Rattle.calendar.specs.declared.Reformed.the-variants as Reformed′
+use Rattle.ncal.specs.Table.{Row, row, table}
+
+-- the table has a row with this name and this calendar
+abbrev pub InTable : List ℕ → Calendar → Type 0
+InTable s c = List·Memᴰ (row s c) table
+
+-- some row has the name
+abbrev pub Known : List ℕ → Type 0
+Known s = (c : Calendar) × InTable s c
+
+-- the calendar of the row with the name
+pub data OfRow (s : List ℕ) : Reformed → Type 0 where
+  of-row : {c : Calendar} → InTable s c → OfRow s (Reformed′.Calendar c)
+
+abbrev pub unknownName : Reformed
+unknownName = Reformed′.Refused (refusal 19 (pos 0))
+
+-- named: 19, or the calendar
+abbrev pub NamesCalendar : List ℕ → Reformed → Type 0
+NamesCalendar s = Unless (Known s) unknownName (OfRow s)

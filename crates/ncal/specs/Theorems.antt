@@ -1,0 +1,82 @@
+-- The names are distinct, the promise allows one result, and every calendar of the table is accepted.
+-- Assumes nothing.
+use mathlib.Core.Path.{_≡_, refl, sym, _∙_, ap, subst}
+use mathlib.Core.Bool.{Bool, true, false, cond, _&&_}
+use mathlib.Core.List.{List, [], _∷_}
+use Prim.Native.Nat.{ℕ, suc, _<_}
+use lib.Dec.{T, eqb, eqb→eq}
+use lib.IntN.{ℤ, pos}
+use lib.Signed.{leZ, leZ-yes, _≤ℤ_}
+use mir.Facts.{and-yes}
+use Rattle.whole.specs.Integers.{unbias-le-down}
+use Rattle.days.specs.DayByDay.{AcceptedReformation, julian-accepted, gregorian-accepted, reforming-accepted}
+use Rattle.days.specs.Held.{dayBias, day}
+use Rattle.days.specs.Spans.{held-from}
+use Rattle.days.specs.Table.{accepts}
+use Rattle.calendar.specs.Calendars.{Accepted}
+use Rattle.calendar.specs.Rows.{One, unless-one}
+use Rattle.calendar.specs.declared.Calendar.{Calendar}
+use Rattle.calendar.specs.declared.Calendar.the-variants.{Julian, Gregorian, Reforming}
+use Rattle.calendar.specs.declared.Reformed.the-variants as Reformed′
+use Rattle.ncal.specs.Table.{bytes, Row, row, table}
+use Rattle.ncal.specs.Promise.{InTable, OfRow, of-row, NamesCalendar}
+use Rattle.ncal.specs.Search.{rowAt}
+use Rattle.ncal.specs.Every.{eqList}
+use Rattle.ncal.specs.Laws.{at-row, row-of}
+
+-- ---- The names are distinct
+
+-- the number of the first row with a name, counted from i
+firstWith : List ℕ → ℕ → List Row → ℕ
+firstWith s i [] = i
+firstWith s i (r ∷ rs) = cond (eqList s (r .name)) i (firstWith s (suc i) rs)
+
+isFirst : ℕ → Row → Bool
+isFirst k r = eqb (firstWith (r .name) 0 table) k
+
+first : (k : ℕ) → k < 36 → firstWith (rowAt k .name) 0 table ≡ k
+unfolding isFirst firstWith table bytes
+first k h = eqb→eq _ _ (at-row isFirst tt k h)
+
+pub names-distinct : (j k : ℕ) → j < 36 → k < 36 → rowAt j .name ≡ rowAt k .name → j ≡ k
+names-distinct j k g h e = sym (first j g) ∙ ap (λ (s : List ℕ). firstWith s 0 table) e ∙ first k h
+
+-- ---- One result
+one-row : {s : List ℕ} {b c : Calendar} → InTable s b → InTable s c → b ≡ c
+one-row p q =
+    let (j, g, d) = row-of p in
+    let (k, h, e) = row-of q in
+    let i : j ≡ k = names-distinct j k g h (ap (λ (r : Row). r .name) (sym d) ∙ ap (λ (r : Row). r .name) e) in
+    ap (λ (r : Row). r .calendar) d ∙ ap (λ (l : ℕ). rowAt l .calendar) i ∙ ap (λ (r : Row). r .calendar) (sym e)
+
+of-row-one : (s : List ℕ) → One (OfRow s)
+of-row-one s a b (of-row p) (of-row q) = ap Reformed′.Calendar (one-row p q)
+
+pub named-one : (s : List ℕ) → One (NamesCalendar s)
+named-one s = unless-one (λ k. of-row-one s)
+
+-- ---- Every calendar of the table is accepted
+in-range : (r : ℤ) → pos 1_830_692 ≤ℤ r → r ≤ℤ pos 2_147_439_588 → AcceptedReformation r
+in-range r h g =
+    let (k, e, u) = held-from dayBias 784_368_640_634 r h in
+    subst AcceptedReformation (sym e) (accepts k u (unbias-le-down dayBias k 786_514_249_530 (subst (λ (z : ℤ). z ≤ℤ pos 2_147_439_588) e g)))
+
+inRange : Calendar → Bool
+inRange Julian = true
+inRange Gregorian = true
+inRange (Reforming r) = leZ (pos 1_830_692) r && leZ r (pos 2_147_439_588)
+
+range-accepted : (c : Calendar) → T (inRange c) → Accepted c
+unfolding inRange
+range-accepted Julian t = julian-accepted
+range-accepted Gregorian t = gregorian-accepted
+range-accepted (Reforming r) t = let (a, b) = and-yes (leZ (pos 1_830_692) r) _ t in reforming-accepted (in-range r (leZ-yes a) (leZ-yes b))
+
+rowInRange : ℕ → Row → Bool
+rowInRange k r = inRange (r .calendar)
+
+pub table-accepted : {s : List ℕ} {c : Calendar} → InTable s c → Accepted c
+unfolding rowInRange inRange table
+table-accepted m =
+    let (k, h, e) = row-of m in
+    subst Accepted (ap (λ (r : Row). r .calendar) (sym e)) (range-accepted (rowAt k .calendar) (at-row rowInRange tt k h))

@@ -1,0 +1,299 @@
+// The calendars of the countries that `ncal` knows, and calendars by name.
+
+ghost use mathlib.Core.Path.{_≡_};
+ghost use Prim.Native.Nat.{_+_, _≤_, _<_};
+ghost use lib.ListN.{length, take, drop};
+ghost use Rattle.ncal.specs.Promise.{NamesCalendar};
+ghost use Rattle.ncal.specs.Search.{calendarAt, Found, Placed, Says};
+use calendar::Calendar;
+use calendar::Reformed;
+use calendar::refusal_of;
+
+// ---- For each country the calendar that is reforming at its first Gregorian day, with that date and the last Julian one
+
+// 1912-12-14, following 1912-11-30 O.S.
+pub const ALBANIA: Calendar = Calendar::Reforming(2_419_751);
+
+// 1752-09-14, following 1752-09-02 O.S.
+pub const AUSTRALIA: Calendar = Calendar::Reforming(2_361_222);
+
+// 1583-10-16, following 1583-10-05 O.S.
+pub const AUSTRIA: Calendar = Calendar::Reforming(2_299_527);
+
+// 1582-12-25, following 1582-12-14 O.S.
+pub const BELGIUM: Calendar = Calendar::Reforming(2_299_232);
+
+// 1916-04-14, following 1916-03-31 O.S.
+pub const BULGARIA: Calendar = Calendar::Reforming(2_420_968);
+
+// 1752-09-14, following 1752-09-02 O.S.
+pub const CANADA: Calendar = Calendar::Reforming(2_361_222);
+
+// 1912-01-01, following 1911-12-18 O.S.
+pub const CHINA: Calendar = Calendar::Reforming(2_419_403);
+
+// 1584-01-17, following 1584-01-06 O.S.
+pub const CZECH_REPUBLIC: Calendar = Calendar::Reforming(2_299_620);
+
+// 1700-03-01, following 1700-02-18 O.S.
+pub const DENMARK: Calendar = Calendar::Reforming(2_342_032);
+
+// 1753-03-01, following 1753-02-17 O.S.
+pub const FINLAND: Calendar = Calendar::Reforming(2_361_390);
+
+// 1582-12-20, following 1582-12-09 O.S.
+pub const FRANCE: Calendar = Calendar::Reforming(2_299_227);
+
+// 1700-03-01, following 1700-02-18 O.S.
+pub const GERMANY: Calendar = Calendar::Reforming(2_342_032);
+
+// 1924-03-23, following 1924-03-09 O.S.
+pub const GREECE: Calendar = Calendar::Reforming(2_423_868);
+
+// 1587-11-01, following 1587-10-21 O.S.
+pub const HUNGARY: Calendar = Calendar::Reforming(2_301_004);
+
+// 1700-11-28, following 1700-11-16 O.S.
+pub const ICELAND: Calendar = Calendar::Reforming(2_342_304);
+
+// 1582-10-15, following 1582-10-04 O.S.
+pub const ITALY: Calendar = Calendar::Reforming(2_299_161);
+
+// 1919-01-01, following 1918-12-18 O.S.
+pub const JAPAN: Calendar = Calendar::Reforming(2_421_960);
+
+// 1918-02-15, following 1918-02-01 O.S.
+pub const LATVIA: Calendar = Calendar::Reforming(2_421_640);
+
+// 1918-02-15, following 1918-02-01 O.S.
+pub const LITHUANIA: Calendar = Calendar::Reforming(2_421_640);
+
+// 1582-12-25, following 1582-12-14 O.S.
+pub const LUXEMBOURG: Calendar = Calendar::Reforming(2_299_232);
+
+// 1582-12-25, following 1582-12-14 O.S.
+pub const NETHERLANDS: Calendar = Calendar::Reforming(2_299_232);
+
+// 1700-03-01, following 1700-02-18 O.S.
+pub const NORWAY: Calendar = Calendar::Reforming(2_342_032);
+
+// 1582-10-15, following 1582-10-04 O.S.
+pub const POLAND: Calendar = Calendar::Reforming(2_299_161);
+
+// 1582-10-15, following 1582-10-04 O.S.
+pub const PORTUGAL: Calendar = Calendar::Reforming(2_299_161);
+
+// 1919-04-14, following 1919-03-31 O.S.
+pub const ROMANIA: Calendar = Calendar::Reforming(2_422_063);
+
+// 1918-02-14, following 1918-01-31 O.S.
+pub const RUSSIA: Calendar = Calendar::Reforming(2_421_639);
+
+// 1919-03-18, following 1919-03-04 O.S.
+pub const SLOVENIA: Calendar = Calendar::Reforming(2_422_036);
+
+// 1582-10-15, following 1582-10-04 O.S.
+pub const SPAIN: Calendar = Calendar::Reforming(2_299_161);
+
+// 1753-03-01, following 1753-02-17 O.S.
+pub const SWEDEN: Calendar = Calendar::Reforming(2_361_390);
+
+// 1655-03-11, following 1655-02-28 O.S.
+pub const SWITZERLAND: Calendar = Calendar::Reforming(2_325_606);
+
+// 1927-01-01, following 1926-12-18 O.S.
+pub const TURKEY: Calendar = Calendar::Reforming(2_424_882);
+
+// 1752-09-14, following 1752-09-02 O.S.
+pub const UNITED_KINGDOM: Calendar = Calendar::Reforming(2_361_222);
+
+// 1752-09-14, following 1752-09-02 O.S.
+pub const UNITED_STATES: Calendar = Calendar::Reforming(2_361_222);
+
+// 1919-03-18, following 1919-03-04 O.S.
+pub const YUGOSLAVIA: Calendar = Calendar::Reforming(2_422_036);
+
+// ---- The names
+
+// The calendar of a name, in capitals.
+pub fn named(name: &[u8]) -> Reformed
+    ensures { λ a. ⌜ NamesCalendar (now (name .entry)) a ⌝ }
+{
+    match number_of(name) {
+        Place::At(k) => Reformed::Calendar(calendar_at(k)),
+        Place::Nowhere => Reformed::Refused(refusal_of(19, 0)),
+    }
+}
+
+// The number that a name has when all are ordered by their lengths.
+pub enum Place {
+    At(usize),
+    Nowhere,
+}
+
+// The names of a length stand one after the other. The numbers count on from length to length.
+fn number_of(name: &[u8]) -> Place
+    ensures { λ p. ⌜ Found (now (name .entry)) p ⌝ }
+{
+    match name.len() {
+        5 => place_among(
+            name,
+            b"CHINA\
+            ITALY\
+            JAPAN\
+            SPAIN",
+            0,
+        ),
+        6 => place_among(
+            name,
+            b"JULIAN\
+            CANADA\
+            FRANCE\
+            GREECE\
+            LATVIA\
+            NORWAY\
+            POLAND\
+            RUSSIA\
+            SWEDEN\
+            TURKEY",
+            4,
+        ),
+        7 => place_among(
+            name,
+            b"ALBANIA\
+            AUSTRIA\
+            BELGIUM\
+            DENMARK\
+            FINLAND\
+            GERMANY\
+            HUNGARY\
+            ICELAND\
+            ROMANIA",
+            14,
+        ),
+        8 => place_among(
+            name,
+            b"BULGARIA\
+            PORTUGAL\
+            SLOVENIA",
+            23,
+        ),
+        9 => place_among(
+            name,
+            b"GREGORIAN\
+            AUSTRALIA\
+            LITHUANIA",
+            26,
+        ),
+        10 => place_among(
+            name,
+            b"LUXEMBOURG\
+            YUGOSLAVIA",
+            29,
+        ),
+        11 => place_among(
+            name,
+            b"NETHERLANDS\
+            SWITZERLAND",
+            31,
+        ),
+        13 => place_among(name, b"UNITED_STATES", 33),
+        14 => place_among(
+            name,
+            b"CZECH_REPUBLIC\
+            UNITED_KINGDOM",
+            34,
+        ),
+        _ => Place::Nowhere,
+    }
+}
+
+// The place of a name among names of its length, counted from the number of the first.
+fn place_among(name: &[u8], letters: &[u8], first: usize) -> Place
+    requires { ⌜ (1 ≤ length (now name)) × (first ≤ 36) ⌝ }
+    ensures { λ p. ⌜ Placed (now (name .entry)) (now (letters .entry)) first p ⌝ }
+{
+    let mut k = first;
+    let mut at = 0;
+    while name.len() <= letters.len() - at {
+        if stands_at(name, letters, at) {
+            return Place::At(k);
+        }
+        at += name.len();
+        k += 1;
+    }
+    Place::Nowhere
+}
+
+fn stands_at(name: &[u8], letters: &[u8], at: usize) -> bool
+    requires { ⌜ at + length (now name) ≤ length (now letters) ⌝ }
+    ensures { λ r. ⌜ Says (now (name .entry) ≡ take (length (now (name .entry))) (drop at (now (letters .entry)))) r ⌝ }
+{
+    let mut i = 0;
+    while i < name.len() {
+        if name[i] != letters[at + i] {
+            return false;
+        }
+        i += 1;
+    }
+    true
+}
+
+// The calendars of the names of 5 and 6 letters, of 7, and of more.
+const SHORT: [Calendar; 14] = [
+    CHINA,
+    ITALY,
+    JAPAN,
+    SPAIN,
+    Calendar::JULIAN,
+    CANADA,
+    FRANCE,
+    GREECE,
+    LATVIA,
+    NORWAY,
+    POLAND,
+    RUSSIA,
+    SWEDEN,
+    TURKEY,
+];
+
+const SEVEN: [Calendar; 9] = [
+    ALBANIA,
+    AUSTRIA,
+    BELGIUM,
+    DENMARK,
+    FINLAND,
+    GERMANY,
+    HUNGARY,
+    ICELAND,
+    ROMANIA,
+];
+
+const LONG: [Calendar; 13] = [
+    BULGARIA,
+    PORTUGAL,
+    SLOVENIA,
+    Calendar::GREGORIAN,
+    AUSTRALIA,
+    LITHUANIA,
+    LUXEMBOURG,
+    YUGOSLAVIA,
+    NETHERLANDS,
+    SWITZERLAND,
+    UNITED_STATES,
+    CZECH_REPUBLIC,
+    UNITED_KINGDOM,
+];
+
+fn calendar_at(k: usize) -> Calendar
+    requires { ⌜ k < 36 ⌝ }
+    ensures { λ c. ⌜ c ≡ calendarAt k ⌝ }
+{
+    if k < 14 {
+        return SHORT[k];
+    }
+    if k < 23 {
+        return SEVEN[k - 14];
+    }
+    LONG[k - 23]
+}

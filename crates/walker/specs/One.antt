@@ -1,0 +1,34 @@
+-- Two results that a promise allows for one input are equal: a theorem for each promise.
+-- Assumes nothing.
+use mathlib.Core.Path.{_≡_, refl, subst}
+use mathlib.Core.Bool.{Bool, true, false}
+use lib.IntN.{ℤ}
+use Rattle.calendar.specs.declared.Date.{Date}
+use Rattle.calendar.specs.Calendars.{IsRecord}
+use Rattle.calendar.specs.Rows.{One, unless-one, if-one}
+use Rattle.calendar.specs.One.{record-one}
+use Rattle.walker.specs.declared.Kind.{Kind}
+use Rattle.walker.specs.declared.Walker.{Walker}
+use Rattle.walker.specs.Promise.{gives, toward, holds, EndedAt, Made, made, Makes, Moves, moves, Steps}
+
+pub ended-one : (n : ℤ) → One (EndedAt n)
+ended-one n true true p q = refl
+ended-one n true false p q = absurd (p q)
+ended-one n false true p q = absurd (q p)
+ended-one n false false p q = refl
+
+made-one : (k : Kind) (d : Date) → One (Made k d)
+made-one k d a b (made {e = e} p) (made {e = f} q) = let i : e ≡ f = ended-one (gives k (d .jdn)) e f p q in cc
+
+pub makes-one : (k : Kind) (d : Date) → One (Makes k d)
+makes-one k d = unless-one (λ g. made-one k d)
+
+moves-one : (w : Walker) → One (Moves w)
+moves-one w a b (moves {d = d} {h = h} {e = e} p i u) (moves {d = c} {h = g} {e = f} q j v) =
+    let s : e ≡ f = ended-one (toward (w .kind) (gives (w .kind) (w .date .jdn))) e f i j in
+    let r : d ≡ c = record-one (w .date .calendar) p q in
+    let t : h ≡ g = record-one (w .date .calendar) (subst (λ (e : Bool). IsRecord (w .date .calendar) (holds (w .kind) e (gives (w .kind) (w .date .jdn))) h) s u) v in
+    cc
+
+pub steps-one : (w : Walker) → One (Steps w)
+steps-one w = unless-one (λ g. if-one (λ n. moves-one w))
