@@ -21,7 +21,7 @@ use Rattle.ncal.specs.declared.Place.{Place}
 use Rattle.ncal.specs.declared.Place.the-variants.{At, Nowhere}
 use Rattle.ncal.specs.Table.{bytes, Row, row, table}
 use Rattle.ncal.specs.Promise.{InTable, Known, NamesCalendar, unknownName, of-row}
-use Rattle.ncal.specs.Search.{order, rowAt, codeRow, nameAt, calendarAt, Found, part, IsPart, Placed, placed, nowhere}
+use Rattle.ncal.specs.Search.{order, rowAt, nameAt, calendarAt, Found, part, IsPart, Placed, placed, nowhere}
 use Rattle.ncal.specs.Every.{every, every-at, number-of, entry-at, eqList, eq-list}
 
 -- ---- Rows by number
@@ -193,8 +193,8 @@ module _ (n first : ℕ) (letters : List ℕ) (some : 1 ≤ n) (few : T (leb (le
       is-part : (k : ℕ) → T (inGroup n first letters k) → s ≡ part n (k - first) letters → IsPart s letters (k - first)
       is-part k g w = subst (λ (m : ℕ). ((k - first) * m + m ≤ length letters) × (s ≡ part m (k - first) letters)) (sym e) (leb-yes (and-yes (leb first k) _ g .1), w)
 
-pub in-group : (n : ℕ) {first : ℕ} {s letters : List ℕ} {p : Place} → Placed s letters first p → length s ≡ n → T (ltb 0 n && leb (length letters) ((36 - first) * n)) → EveryNumber (grouped n first letters) → Found s p
-in-group n {first} {s} {letters} w e t right = let (a, b) = and-yes (ltb 0 n) _ t in found-in n first letters (ltb-yes a) b right e w
+pub in-group : {n first : ℕ} {s letters : List ℕ} {p : Place} → Placed s letters first p → length s ≡ n → T (ltb 0 n && leb (length letters) ((36 - first) * n)) → EveryNumber (grouped n first letters) → Found s p
+in-group {n} {first} {letters = letters} w e t right = let (a, b) = and-yes (ltb 0 n) _ t in found-in n first letters (ltb-yes a) b right e w
 
 -- ---- Names of no length that a name has
 hasLength : ℕ → Row → Bool

@@ -8,7 +8,7 @@ use Rattle.calendar.specs.Promise.{refusal}
 use Rattle.calendar.specs.declared.Calendar.{Calendar}
 use Rattle.calendar.specs.declared.Reformed.{Reformed}
 use Rattle.calendar.specs.declared.Reformed.the-variants as Reformed′
-use Rattle.ncal.specs.Table.{Row, row, table}
+use Rattle.ncal.specs.Table.{row, table}
 
 -- the table has a row with this name and this calendar
 abbrev pub InTable : List ℕ → Calendar → Type 0

@@ -1,24 +1,26 @@
 -- The names are distinct, the promise allows one result, and every calendar of the table is accepted.
 -- Assumes nothing.
-use mathlib.Core.Path.{_≡_, refl, sym, _∙_, ap, subst}
-use mathlib.Core.Bool.{Bool, true, false, cond, _&&_}
+use mathlib.Core.Path.{_≡_, sym, _∙_, ap, subst}
+use mathlib.Core.Bool.{Bool, true, cond, _&&_}
 use mathlib.Core.List.{List, [], _∷_}
 use Prim.Native.Nat.{ℕ, suc, _<_}
+use native.Mathlib.Omega.{arith}
 use lib.Dec.{T, eqb, eqb→eq}
 use lib.IntN.{ℤ, pos}
 use lib.Signed.{leZ, leZ-yes, _≤ℤ_}
 use mir.Facts.{and-yes}
 use Rattle.whole.specs.Integers.{unbias-le-down}
 use Rattle.days.specs.DayByDay.{AcceptedReformation, julian-accepted, gregorian-accepted, reforming-accepted}
-use Rattle.days.specs.Held.{dayBias, day}
+use Rattle.days.specs.Held.{dayBias}
 use Rattle.days.specs.Spans.{held-from}
 use Rattle.days.specs.Table.{accepts}
 use Rattle.calendar.specs.Calendars.{Accepted}
-use Rattle.calendar.specs.Rows.{One, unless-one}
+use Rattle.calendar.specs.Rows.{One, unless-one, refuses, passes}
 use Rattle.calendar.specs.declared.Calendar.{Calendar}
 use Rattle.calendar.specs.declared.Calendar.the-variants.{Julian, Gregorian, Reforming}
+use Rattle.calendar.specs.declared.Reformed.{Reformed}
 use Rattle.calendar.specs.declared.Reformed.the-variants as Reformed′
-use Rattle.ncal.specs.Table.{bytes, Row, row, table}
+use Rattle.ncal.specs.Table.{bytes, Row, table}
 use Rattle.ncal.specs.Promise.{InTable, OfRow, of-row, NamesCalendar}
 use Rattle.ncal.specs.Search.{rowAt}
 use Rattle.ncal.specs.Every.{eqList}
@@ -55,6 +57,10 @@ of-row-one s a b (of-row p) (of-row q) = ap Reformed′.Calendar (one-row p q)
 pub named-one : (s : List ℕ) → One (NamesCalendar s)
 named-one s = unless-one (λ k. of-row-one s)
 
+-- a name of the table is answered with its calendar
+pub named-row : {s : List ℕ} {c : Calendar} {a : Reformed} → InTable s c → NamesCalendar s a → a ≡ Reformed′.Calendar c
+named-row {s} {c} {a} m p = named-one s a (Reformed′.Calendar c) p (passes (c, m) (of-row m))
+
 -- ---- Every calendar of the table is accepted
 in-range : (r : ℤ) → pos 1_830_692 ≤ℤ r → r ≤ℤ pos 2_147_439_588 → AcceptedReformation r
 in-range r h g =
@@ -80,3 +86,11 @@ unfolding rowInRange inRange table
 table-accepted m =
     let (k, h, e) = row-of m in
     subst Accepted (ap (λ (r : Row). r .calendar) (sym e)) (range-accepted (rowAt k .calendar) (at-row rowInRange tt k h))
+
+nought : _≡_ {A = ℕ} 0 1 → ⊥
+nought z = omega arith
+
+-- and so is every calendar that a name is answered with
+pub named-accepted : {s : List ℕ} {a : Reformed} → NamesCalendar s a → {c : Calendar} → a ≡ Reformed′.Calendar c → Accepted c
+named-accepted (refuses n) e = let z : _≡_ {A = ℕ} 0 1 = cc in absurd (nought z)
+named-accepted (passes k (of-row {c = b} m)) {c} e = let q : b ≡ c = cc in subst Accepted q (table-accepted m)

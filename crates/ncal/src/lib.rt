@@ -126,84 +126,71 @@ pub fn named(name: &[u8]) -> Reformed
 }
 
 // The number that a name has when all are ordered by their lengths.
-pub enum Place {
+enum Place {
     At(usize),
     Nowhere,
 }
 
-// The names of a length stand one after the other. The numbers count on from length to length.
+// The names of a length, one after the other.
+const OF_FIVE: [u8; 20] = *b"CHINA\
+    ITALY\
+    JAPAN\
+    SPAIN";
+
+const OF_SIX: [u8; 60] = *b"JULIAN\
+    CANADA\
+    FRANCE\
+    GREECE\
+    LATVIA\
+    NORWAY\
+    POLAND\
+    RUSSIA\
+    SWEDEN\
+    TURKEY";
+
+const OF_SEVEN: [u8; 63] = *b"ALBANIA\
+    AUSTRIA\
+    BELGIUM\
+    DENMARK\
+    FINLAND\
+    GERMANY\
+    HUNGARY\
+    ICELAND\
+    ROMANIA";
+
+const OF_EIGHT: [u8; 24] = *b"BULGARIA\
+    PORTUGAL\
+    SLOVENIA";
+
+const OF_NINE: [u8; 27] = *b"GREGORIAN\
+    AUSTRALIA\
+    LITHUANIA";
+
+const OF_TEN: [u8; 20] = *b"LUXEMBOURG\
+    YUGOSLAVIA";
+
+const OF_ELEVEN: [u8; 22] = *b"NETHERLANDS\
+    SWITZERLAND";
+
+const OF_THIRTEEN: [u8; 13] = *b"UNITED_STATES";
+
+const OF_FOURTEEN: [u8; 28] = *b"CZECH_REPUBLIC\
+    UNITED_KINGDOM";
+
+// The numbers of the names count on from length to length.
 fn number_of(name: &[u8]) -> Place
     ensures { λ p. ⌜ Found (now (name .entry)) p ⌝ }
 {
     match name.len() {
-        5 => place_among(
-            name,
-            b"CHINA\
-            ITALY\
-            JAPAN\
-            SPAIN",
-            0,
-        ),
-        6 => place_among(
-            name,
-            b"JULIAN\
-            CANADA\
-            FRANCE\
-            GREECE\
-            LATVIA\
-            NORWAY\
-            POLAND\
-            RUSSIA\
-            SWEDEN\
-            TURKEY",
-            4,
-        ),
-        7 => place_among(
-            name,
-            b"ALBANIA\
-            AUSTRIA\
-            BELGIUM\
-            DENMARK\
-            FINLAND\
-            GERMANY\
-            HUNGARY\
-            ICELAND\
-            ROMANIA",
-            14,
-        ),
-        8 => place_among(
-            name,
-            b"BULGARIA\
-            PORTUGAL\
-            SLOVENIA",
-            23,
-        ),
-        9 => place_among(
-            name,
-            b"GREGORIAN\
-            AUSTRALIA\
-            LITHUANIA",
-            26,
-        ),
-        10 => place_among(
-            name,
-            b"LUXEMBOURG\
-            YUGOSLAVIA",
-            29,
-        ),
-        11 => place_among(
-            name,
-            b"NETHERLANDS\
-            SWITZERLAND",
-            31,
-        ),
-        13 => place_among(name, b"UNITED_STATES", 33),
-        14 => place_among(
-            name,
-            b"CZECH_REPUBLIC\
-            UNITED_KINGDOM",
-            34,
-        ),
+        5 => place_among(name, &OF_FIVE, 0),
+        6 => place_among(name, &OF_SIX, 4),
+        7 => place_among(name, &OF_SEVEN, 14),
+        8 => place_among(name, &OF_EIGHT, 23),
+        9 => place_among(name, &OF_NINE, 26),
+        10 => place_among(name, &OF_TEN, 29),
+        11 => place_among(name, &OF_ELEVEN, 31),
+        13 => place_among(name, &OF_THIRTEEN, 33),
+        14 => place_among(name, &OF_FOURTEEN, 34),
         _ => Place::Nowhere,
     }
 }
@@ -240,7 +227,7 @@ fn stands_at(name: &[u8], letters: &[u8], at: usize) -> bool
 }
 
 // The calendars of the names of 5 and 6 letters, of 7, and of more.
-const SHORT: [Calendar; 14] = [
+const SHORT_CALENDARS: [Calendar; 14] = [
     CHINA,
     ITALY,
     JAPAN,
@@ -257,7 +244,7 @@ const SHORT: [Calendar; 14] = [
     TURKEY,
 ];
 
-const SEVEN: [Calendar; 9] = [
+const SEVEN_CALENDARS: [Calendar; 9] = [
     ALBANIA,
     AUSTRIA,
     BELGIUM,
@@ -269,7 +256,7 @@ const SEVEN: [Calendar; 9] = [
     ROMANIA,
 ];
 
-const LONG: [Calendar; 13] = [
+const LONG_CALENDARS: [Calendar; 13] = [
     BULGARIA,
     PORTUGAL,
     SLOVENIA,
@@ -290,10 +277,10 @@ fn calendar_at(k: usize) -> Calendar
     ensures { λ c. ⌜ c ≡ calendarAt k ⌝ }
 {
     if k < 14 {
-        return SHORT[k];
+        return SHORT_CALENDARS[k];
     }
     if k < 23 {
-        return SEVEN[k - 14];
+        return SEVEN_CALENDARS[k - 14];
     }
-    LONG[k - 23]
+    LONG_CALENDARS[k - 23]
 }

@@ -64,39 +64,39 @@ place-among-requires-9 c κs = search needs
 
 returns : tie.Need-returns
 unfolding order table bytes
-returns c = in-group 5 (c .place-among .ensures) (c .before .before .match .keys1) tt tt
+returns c = in-group (c .place-among .ensures) (c .before .before .match .keys1) tt tt
 
 returns-2 : tie.Need-returns-2
 unfolding order table bytes
-returns-2 c = in-group 6 (c .place-among2 .ensures) (c .before .before .match .keys2) tt tt
+returns-2 c = in-group (c .place-among2 .ensures) (c .before .before .match .keys2) tt tt
 
 returns-3 : tie.Need-returns-3
 unfolding order table bytes
-returns-3 c = in-group 7 (c .place-among3 .ensures) (c .before .before .match .keys3) tt tt
+returns-3 c = in-group (c .place-among3 .ensures) (c .before .before .match .keys3) tt tt
 
 returns-4 : tie.Need-returns-4
 unfolding order table bytes
-returns-4 c = in-group 8 (c .place-among4 .ensures) (c .before .before .match .keys4) tt tt
+returns-4 c = in-group (c .place-among4 .ensures) (c .before .before .match .keys4) tt tt
 
 returns-5 : tie.Need-returns-5
 unfolding order table bytes
-returns-5 c = in-group 9 (c .place-among5 .ensures) (c .before .before .match .keys5) tt tt
+returns-5 c = in-group (c .place-among5 .ensures) (c .before .before .match .keys5) tt tt
 
 returns-6 : tie.Need-returns-6
 unfolding order table bytes
-returns-6 c = in-group 10 (c .place-among6 .ensures) (c .before .before .match .keys6) tt tt
+returns-6 c = in-group (c .place-among6 .ensures) (c .before .before .match .keys6) tt tt
 
 returns-7 : tie.Need-returns-7
 unfolding order table bytes
-returns-7 c = in-group 11 (c .place-among7 .ensures) (c .before .before .match .keys7) tt tt
+returns-7 c = in-group (c .place-among7 .ensures) (c .before .before .match .keys7) tt tt
 
 returns-8 : tie.Need-returns-8
 unfolding order table bytes
-returns-8 c = in-group 13 (c .place-among8 .ensures) (c .before .before .match .keys8) tt tt
+returns-8 c = in-group (c .place-among8 .ensures) (c .before .before .match .keys8) tt tt
 
 returns-9 : tie.Need-returns-9
 unfolding order table bytes
-returns-9 c = in-group 14 (c .place-among9 .ensures) (c .before .before .match .keys9) tt tt
+returns-9 c = in-group (c .place-among9 .ensures) (c .before .before .match .keys9) tt tt
 
 returns-10 : tie.Need-returns-10
 returns-10 c =
@@ -104,9 +104,17 @@ returns-10 c =
     let l = length (c .before .before .args .name .now) in
     let r = c .match .rest in
     let (low, high, twelve) = known-length m in
-    too-long l
-    (beyond l 14 (beyond l 13 (beyond l 12 (beyond l 11 (beyond l 10 (beyond l 9 (beyond l 8 (beyond l 7 (beyond l 6 (beyond l 5 low (r .0 .0 .0 .0 .0 .0 .0 .0 .1)) (r .0 .0 .0 .0 .0 .0 .0 .1)) (r .0 .0 .0 .0 .0 .0 .1)) (r .0 .0 .0 .0 .0 .1)) (r .0 .0 .0 .0 .1)) (r .0 .0 .0 .1)) (r .0 .0 .1)) twelve) (r .0 .1)) (r .1))
-    high
+    let from-6 = beyond l 5 low (r .0 .0 .0 .0 .0 .0 .0 .0 .1) in
+    let from-7 = beyond l 6 from-6 (r .0 .0 .0 .0 .0 .0 .0 .1) in
+    let from-8 = beyond l 7 from-7 (r .0 .0 .0 .0 .0 .0 .1) in
+    let from-9 = beyond l 8 from-8 (r .0 .0 .0 .0 .0 .1) in
+    let from-10 = beyond l 9 from-9 (r .0 .0 .0 .0 .1) in
+    let from-11 = beyond l 10 from-10 (r .0 .0 .0 .1) in
+    let from-12 = beyond l 11 from-11 (r .0 .0 .1) in
+    let from-13 = beyond l 12 from-12 twelve in
+    let from-14 = beyond l 13 from-13 (r .0 .1) in
+    let from-15 = beyond l 14 from-14 (r .1) in
+    too-long l from-15 high
 
 pub number-of-spec : {M : Type 1} → statement M
 number-of-spec =
