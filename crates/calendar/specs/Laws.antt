@@ -250,6 +250,13 @@ module _ {r y m d t : ℕ} {b : Bool} (h : HeldYear (heldYear y)) where
   pub none-found : b ≡ G.leapAt (heldYear y) → t ≡ G.start (heldYear y) → Reads b t y m d Read′.Nothing → ReadsBelow r y m d Read′.Nothing → Finds r y m d Found′.Nowhere
   none-found e f (reads-none n) (below-none l) = finds-none (read-none G.leapAt G.start y m d h e f n) l
 
+-- no Julian day of a year that begins from r on is before r
+pub below-year : {r y m d t : ℕ} → t ≡ J.start (heldYear y) → r ≤ t → ReadsBelow r y m d Read′.Nothing
+below-year {r} {y} {m} {d} f g = below-none (λ i. after (daysBefore (J.leapAt (heldYear y)) m) (subst (λ (n : ℕ). r ≤ n) f g) (i .2))
+  where
+    after : (k : ℕ) {s : ℕ} → r ≤ s → 1 ≤ d → r ≤ s + k + d - 1
+    after k g i = omega arith
+
 pub old-found : {r y m d : ℕ} {s : S.Spot} → ReadsBelow r y m d (Read′.At s) → Finds r y m d (Found′.At s)
 old-found (below-at l) = finds-at l
 

@@ -144,30 +144,29 @@ pub fn on_label(calendar: Calendar, switch: u64, year: i32, month: u32, day: u32
     }
 }
 
-// A label is on its Gregorian day where that is not before the switch, and on its Julian day where that is before it.
+// A label is on its Julian day where that is before the switch, and on its Gregorian day where that is not before it.
 fn find(switch: u64, year: u32, month: u32, day: u32) -> Found
     requires { ⌜ Month month ⌝ }
     ensures { λ f. ⌜ Finds switch year month day f ⌝ }
 {
-    let new = reading(
-        inner::is_gregorian_leap(year),
-        inner::gregorian_start(year),
-        year,
-        month,
-        day,
-    );
-    match new {
-        Read::Nothing => match julian_below(switch, year, month, day) {
-            Read::At(s) => Found::At(s),
-            Read::Nothing => Found::Nowhere,
-        },
-        Read::At(s) => {
-            if switch <= s.held {
-                return Found::At(s);
-            }
-            match julian_below(switch, year, month, day) {
-                Read::At(t) => Found::At(t),
-                Read::Nothing => Found::Skipped,
+    match julian_below(switch, year, month, day) {
+        Read::At(s) => Found::At(s),
+        Read::Nothing => {
+            let new = reading(
+                inner::is_gregorian_leap(year),
+                inner::gregorian_start(year),
+                year,
+                month,
+                day,
+            );
+            match new {
+                Read::Nothing => Found::Nowhere,
+                Read::At(t) => {
+                    if switch <= t.held {
+                        return Found::At(t);
+                    }
+                    Found::Skipped
+                }
             }
         }
     }
@@ -178,18 +177,16 @@ pub enum Read {
     Nothing,
 }
 
-// The day of a label in the Julian reckoning, where that is before the switch.
+// The day of a label in the Julian reckoning, where that is before the switch. There is none in a year that begins from the switch on.
 fn julian_below(switch: u64, year: u32, month: u32, day: u32) -> Read
     requires { ⌜ Month month ⌝ }
     ensures { λ r. ⌜ ReadsBelow switch year month day r ⌝ }
 {
-    match reading(
-        inner::is_julian_leap(year),
-        inner::julian_start(year),
-        year,
-        month,
-        day,
-    ) {
+    let start = inner::julian_start(year);
+    if switch <= start {
+        return Read::Nothing;
+    }
+    match reading(inner::is_julian_leap(year), start, year, month, day) {
         Read::Nothing => Read::Nothing,
         Read::At(s) => {
             if s.held < switch {

@@ -198,6 +198,24 @@ module _ {c : Calendar} {r : ℕ} {reckoning : Reckoning} {leapAt : ℕ → Bool
 pub spot-again : {leapAt : ℕ → Bool} {start : ℕ → ℕ} {k y o : ℕ} → HeldYear y → Spot leapAt start k y o → Spot leapAt start k (y - 352 + 352) o
 spot-again {leapAt} {start} {k} {y} {o} h p = let e : y ≡ y - 352 + 352 = omega (arith, h .from) in subst (λ (y : ℕ). Spot leapAt start k y o) e p
 
+-- the year and ordinal of a day by quarters of a day, of which a year has 1461
+pub by-quarters : (k : ℕ) → Spot J.leapAt J.start k (4 * k / 1461) (4 * k % 1461 / 4 + 1)
+by-quarters k = record {
+  from = omega arith;
+  to = ⊎-elim (λ e. omega (arith, J.length-leap (4 * k / 1461) e)) (λ n. omega (arith, short n, J.length-common (4 * k / 1461) n)) (eq-or-not (4 * k / 1461 % 4) 0);
+  adds = omega arith;
+}
+  where
+    fourth : (y z : ℕ) → y ≡ 4 * z → y % 4 ≡ 0
+    fourth y z e = omega arith
+
+    short : (4 * k / 1461 % 4 ≡ 0 → ⊥) → 4 * k % 1461 < 1460
+    short n = ⊎-elim (λ l. l) (λ g. absurd (n (fourth (4 * k / 1461) (k - 365 * (4 * k / 1461) - 365) (omega arith)))) (lt-or-ge (4 * k % 1461) 1460)
+
+-- a point of a cycle is within it and its virtual days
+pub virtual-less : {r p : ℕ} → r < 146_097 → VirtualPoint r p → p < 146_101
+virtual-less {r} h v = ⊎-elim (λ l. omega (arith, v .first-year l)) (λ g. omega (arith, v .later-year g)) (lt-or-ge r 366)
+
 -- ---- The virtual leap days
 pub virtual-some : {r p : ℕ} → VirtualPoint r p → 1 ≤ p
 virtual-some {r} v = ⊎-elim (λ h. omega (arith, v .first-year h)) (λ h. omega (arith, v .later-year h)) (lt-or-ge r 366)

@@ -128,22 +128,16 @@ struct LongPlace {
     ordinal: u64,
 }
 
-// Year and ordinal in a count of days in which every fourth year is leap, beginning with the first.
+// Year and ordinal in a count of days in which every fourth year is leap, beginning with the first. Four years have 1461 days, so a year
+// has 1461 quarters of a day: the quarters that a whole number of years leaves over are those of the ordinal.
 fn decompose_julian(days: u64) -> LongPlace
+    requires { ⌜ days < 4_000_000_000_000 ⌝ }
     ensures { λ r. ⌜ Spot J.leapAt J.start days (r .year) (r .ordinal) ⌝ }
 {
-    let cycles = days / 1461;
-    let rest = days % 1461;
-    if rest < 366 {
-        return LongPlace {
-            year: 4 * cycles,
-            ordinal: rest + 1,
-        };
-    }
-    let after_first_year = rest - 366;
+    let quarters = 4 * days;
     LongPlace {
-        year: 4 * cycles + 1 + after_first_year / 365,
-        ordinal: after_first_year % 365 + 1,
+        year: quarters / 1461,
+        ordinal: quarters % 1461 / 4 + 1,
     }
 }
 

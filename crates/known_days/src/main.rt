@@ -272,7 +272,12 @@ fn date_of(
     }
 }
 
-// The record of 1582-10-15 where r = 2299161, and each of its fields changed by one.
+const ITALY: Calendar = Calendar::Reforming(2_299_161);
+
+const A_DAY_LATER: Calendar = Calendar::Reforming(2_299_162);
+
+const A_DAY_EARLIER: Calendar = Calendar::Reforming(2_299_160);
+
 fn changed(c: Calendar, year: i32, ordinal: u32, month: u32, day: u32, day_ordinal: u32, jdn: i32) {
     asked_of(date_of(c, year, ordinal, month, day, day_ordinal, jdn));
 }
@@ -283,159 +288,33 @@ fn made_up_records() {
     changed_calendars();
 }
 
+// The record of 1582-10-15 where r = 2299161, and its calendar, year, ordinal and month changed by one.
 fn changed_labels() {
-    changed(
-        Calendar::Reforming(2_299_161),
-        1582,
-        278,
-        10,
-        15,
-        5,
-        2_299_161,
-    );
-    changed(
-        Calendar::Reforming(2_299_162),
-        1582,
-        278,
-        10,
-        15,
-        5,
-        2_299_161,
-    );
-    changed(
-        Calendar::Reforming(2_299_160),
-        1582,
-        278,
-        10,
-        15,
-        5,
-        2_299_161,
-    );
-    changed(
-        Calendar::Reforming(2_299_161),
-        1583,
-        278,
-        10,
-        15,
-        5,
-        2_299_161,
-    );
-    changed(
-        Calendar::Reforming(2_299_161),
-        1581,
-        278,
-        10,
-        15,
-        5,
-        2_299_161,
-    );
-    changed(
-        Calendar::Reforming(2_299_161),
-        1582,
-        279,
-        10,
-        15,
-        5,
-        2_299_161,
-    );
-    changed(
-        Calendar::Reforming(2_299_161),
-        1582,
-        277,
-        10,
-        15,
-        5,
-        2_299_161,
-    );
-    changed(
-        Calendar::Reforming(2_299_161),
-        1582,
-        278,
-        11,
-        15,
-        5,
-        2_299_161,
-    );
-    changed(
-        Calendar::Reforming(2_299_161),
-        1582,
-        278,
-        9,
-        15,
-        5,
-        2_299_161,
-    );
+    changed(ITALY, 1582, 278, 10, 15, 5, 2_299_161);
+    changed(A_DAY_LATER, 1582, 278, 10, 15, 5, 2_299_161);
+    changed(A_DAY_EARLIER, 1582, 278, 10, 15, 5, 2_299_161);
+    changed(ITALY, 1583, 278, 10, 15, 5, 2_299_161);
+    changed(ITALY, 1581, 278, 10, 15, 5, 2_299_161);
+    changed(ITALY, 1582, 279, 10, 15, 5, 2_299_161);
+    changed(ITALY, 1582, 277, 10, 15, 5, 2_299_161);
+    changed(ITALY, 1582, 278, 11, 15, 5, 2_299_161);
+    changed(ITALY, 1582, 278, 9, 15, 5, 2_299_161);
 }
 
+// Its day, day ordinal and day number changed by one.
 fn changed_places() {
-    changed(
-        Calendar::Reforming(2_299_161),
-        1582,
-        278,
-        10,
-        16,
-        5,
-        2_299_161,
-    );
-    changed(
-        Calendar::Reforming(2_299_161),
-        1582,
-        278,
-        10,
-        14,
-        5,
-        2_299_161,
-    );
-    changed(
-        Calendar::Reforming(2_299_161),
-        1582,
-        278,
-        10,
-        15,
-        6,
-        2_299_161,
-    );
-    changed(
-        Calendar::Reforming(2_299_161),
-        1582,
-        278,
-        10,
-        15,
-        4,
-        2_299_161,
-    );
-    changed(
-        Calendar::Reforming(2_299_161),
-        1582,
-        278,
-        10,
-        15,
-        5,
-        2_299_162,
-    );
-    changed(
-        Calendar::Reforming(2_299_161),
-        1582,
-        278,
-        10,
-        15,
-        5,
-        2_299_160,
-    );
+    changed(ITALY, 1582, 278, 10, 16, 5, 2_299_161);
+    changed(ITALY, 1582, 278, 10, 14, 5, 2_299_161);
+    changed(ITALY, 1582, 278, 10, 15, 6, 2_299_161);
+    changed(ITALY, 1582, 278, 10, 15, 4, 2_299_161);
+    changed(ITALY, 1582, 278, 10, 15, 5, 2_299_162);
+    changed(ITALY, 1582, 278, 10, 15, 5, 2_299_160);
 }
 
 // A record is genuine in each accepted calendar in which its day has the same fields.
 fn changed_calendars() {
     changed(Calendar::GREGORIAN, 1583, 323, 11, 19, 19, 2_299_561);
-    changed(
-        Calendar::Reforming(2_299_161),
-        1583,
-        323,
-        11,
-        19,
-        19,
-        2_299_561,
-    );
+    changed(ITALY, 1583, 323, 11, 19, 19, 2_299_561);
     changed(Calendar::Reforming(0), 1583, 323, 11, 19, 19, 2_299_561);
     changed(Calendar::JULIAN, 1583, 323, 11, 19, 19, 2_299_561);
 }

@@ -10,7 +10,7 @@ use Rattle.days.specs.Range.{gregorian-year}
 use Rattle.days.specs.Starts.{Spot}
 use Rattle.days.specs.Year.{year-most}
 use Rattle.inner.specs.Natural.{heldDay, VirtualPoint}
-use Rattle.inner.specs.Laws.{raised-day-held, spot-again, virtual-some, virtual-spot}
+use Rattle.inner.specs.Laws.{raised-day-held, spot-again, virtual-less, virtual-some, virtual-spot}
 use Rattle.inner.proofs.gregorian_place.Statement.{statement}
 use Rattle.inner.proofs.gregorian_place.Tie as tie
 
@@ -33,7 +33,7 @@ sub-decompose-julian : tie.Need-sub-decompose-julian
 sub-decompose-julian c = virtual-some (c .virtual-point .ensures)
 
 decompose-julian-requires : tie.Need-decompose-julian-requires
-decompose-julian-requires c κs = search needs
+decompose-julian-requires c κs = omega (arith, virtual-less (omega arith) (c .virtual-point .ensures))
 
 mul-t5 : tie.Need-mul-t5
 mul-t5 c = search needs

@@ -1,0 +1,39 @@
+-- `bench_calls::ymd_calls` is safe and ends. Assumes nothing.
+use mathlib.Core.Path.{_≡_}
+use Prim.Native.Nat.{_-_, _≤_}
+use borrow.Author.Needs.{needs}
+use lib.ListN.{length}
+use Rattle.bench_calls.proofs.ymd_calls.Statement.{statement}
+use Rattle.bench_calls.proofs.ymd_calls.Tie as tie
+use Rattle.bench_calls.proofs.ymd_calls.Reads as reads
+use Rattle.bench_calls.proofs.ymd_calls.Lts as lts
+use Rattle.bench_calls.proofs.ymd_call.Reads as ymd-call-reads
+
+abbrev Inv-loop : tie.InvT-loop
+Inv-loop calendar signs counts calls sum₀ k₀ sum k = (length signs ≡ 8192) × (length counts ≡ 16384) × (k ≤ calls)
+
+abbrev μ-loop : tie.MeasureT-loop
+μ-loop calendar signs counts calls sum₀ k₀ sum k = calls - k
+
+loop-holds : tie.Need-loop-holds Inv-loop μ-loop
+loop-holds c = search needs
+
+ymd-call-requires : tie.Need-ymd-call-requires Inv-loop μ-loop
+ymd-call-requires c κs = search needs
+
+add-k : tie.Need-add-k Inv-loop μ-loop
+add-k c = search needs
+
+loop-less : tie.Need-loop-less Inv-loop μ-loop
+loop-less c = search needs
+
+loop-again : tie.Need-loop-again Inv-loop μ-loop
+loop-again c = search needs
+
+returns : tie.Need-returns Inv-loop μ-loop
+returns c = search needs
+
+pub ymd-calls-spec : {M : Type 1} → statement M
+ymd-calls-spec =
+    tie.close
+    (tie.spec Inv-loop μ-loop loop-holds ymd-call-requires add-k loop-less loop-again returns)
