@@ -1,28 +1,36 @@
 -- What follows from the promises: the lengths of the months of a year add up to its length, and the position of a day and the day of a
 -- position undo each other.
 -- Assumes nothing.
-use mathlib.Core.Path.{_≡_, sym, _∙_, ap, ap₂, subst, subst₂}
+use mathlib.Core.Path.{_≡_, refl, sym, _∙_, ap, ap₂, subst, subst₂}
 use mathlib.Core.Logic.{_⊎_, inl, inr, ⊎-elim}
-use Prim.Native.Nat.{ℕ, zero, suc, _+_, _-_, _<_, _≤_}
+use Prim.Native.Nat.{ℕ, zero, suc, _+_, _-_, _<_, _≤_, _^_}
 use native.Mathlib.Omega.{arith}
 use native.Mathlib.Numerals.{add-one}
 use lib.IntN.{ℤ, pos, negℤ, _+ℤ_, _-ℤ_, +ℤ-idr, +ℤ-assoc, negℤ-+ℤ, pos-+ℤ-pos}
 use lib.Signed.{_<ℤ_, _≤ℤ_, ≤ℤ-refl, clashℤ}
+use Rattle.whole.specs.Edge.{unbias-fits-only}
 use Rattle.whole.specs.Tests as N
+use mir.Facts.{leb-yes}
 use Rattle.whole.specs.Integers.{lt-or-ge, lt-le, le-trans, antisym, back-le, back-lt, none-between}
-use Rattle.days.specs.DayByDay.{Label, label, by-month, Rises, OfMonth, Place, DayOrdinal, Days, YearLength, MonthLength}
+use Rattle.days.specs.DayByDay.{Label, label, by-month, Rises, monthLength, Is32Bit, gregorian-accepted, Borne, OfMonth, Place, DayOrdinal, Days, YearLength, MonthLength}
 use Rattle.days.specs.Order.{≺-month}
 use Rattle.days.specs.Rising.{up-back, year-run, here, days-one, place-one, nth-within}
 use Rattle.days.specs.Spans.{Proper}
 use Rattle.days.specs.Calendars.{accepted-rises, labels-proper, skipped-nowhere}
+use Rattle.days.specs.Gregorian as G
+use Rattle.days.specs.Held.{HeldYear}
+use Rattle.days.specs.Numbers.{There}
+use Rattle.days.specs.Runs.{gregorian-runs, on-new, day-ordinal-at}
 use Rattle.calendar.specs.declared.Calendar.{Calendar}
+use Rattle.calendar.specs.declared.Calendar.the-variants.{Gregorian}
 use Rattle.calendar.specs.declared.Date.{Date}
 use Rattle.calendar.specs.declared.Counted.the-variants as Counted′
 use Rattle.calendar.specs.declared.Dated.{Dated}
 use Rattle.calendar.specs.declared.Dated.the-variants as Dated′
-use Rattle.calendar.specs.Calendars.{meant, labels}
-use Rattle.calendar.specs.Rows.{refuses, passes}
-use Rattle.calendar.specs.Promise.{Month, Given, record-of, AtYmd, on-label}
+use Rattle.calendar.specs.Calendars.{meant, labels, Accepted, Skipped}
+use Rattle.calendar.specs.Rows.{Unless, If, refuses, passes}
+use Rattle.calendar.specs.Promise.{Month, Missing, Given, record-of, refused, AtYmd, on-label}
+use Rattle.calendar.specs.One.{at-ymd-one}
 use Rattle.months.specs.Promise.{number, YearLengthOf, Len, DayOrdinalOf, IsNth, NthDay, nth-record, NthDate}
 use Rattle.months.specs.One.{label-of-month, is-nth-one, nth-label-one, place-of-one}
 
@@ -205,3 +213,35 @@ module _ (c : Calendar) (y : ℤ) (m : ℕ) where
   pub place-in-record : {k : ℕ} {t : Date} → NthDate c y m k (Dated′.Date t) → t .«day_ordinal» ≡ k
   place-in-record {k} (passes x (passes v (passes o (nth-record {n} g (passes f (record-of p)))))) =
       place-one (p .day-ordinal-is) (subst₂ (λ (z : ℤ) (i : ℕ). Place (λ j. OfMonth z i (labels c j)) n k) (sym (g .of-month .0)) (sym (g .of-month .1)) (g .place))
+
+-- ---- The first day past 32 bits is the fourth day of Gregorian June 5874898: `nth_date` refuses it 7
+held : HeldYear 2_153_358_898
+held = record { from = omega arith; to = omega arith }
+
+fourth-there : There G.leapAt 2_153_358_898 6 4
+unfolding monthLength
+fourth-there = (omega arith, omega arith, omega arith, leb-yes tt)
+
+past-32-bits : ¬ Is32Bit (pos 2_147_483_648)
+past-32-bits f = let h : 2_147_483_648 < 0 + 2 ^ 31 = unbias-fits-only 0 2_147_483_648 f .1 in omega (arith, h)
+
+fourth-label : labels Gregorian (pos 2_147_483_648) ≡ label (pos 5_874_898) 6 4
+unfolding monthLength
+fourth-label = on-new gregorian-runs 2_153_358_898 6 4 refl held fourth-there (leb-yes tt)
+
+fourth-place : DayOrdinal (labels Gregorian) (pos 2_147_483_648) 4
+unfolding monthLength
+fourth-place = day-ordinal-at gregorian-runs 786_514_293_590 2_153_358_898 6 4 held fourth-label (omega arith) (omega arith)
+
+fourth-borne : Borne (labels Gregorian) (label (pos 5_874_898) 6 4)
+fourth-borne = (pos 2_147_483_648, fourth-label)
+
+-- the rows that a date which a day bears passes
+borne : {A : Type 0} {a b c d r : A} {Below : A → Type 0} → Below r
+    → Unless (Accepted Gregorian) a (Unless (Month 6) b (If (Missing Gregorian (label (pos 5_874_898) 6 4)) c (If (Skipped Gregorian (label (pos 5_874_898) 6 4)) d Below))) r
+borne p = passes gregorian-accepted (passes (omega arith, omega arith) (passes (λ i. i .0 fourth-borne) (passes (λ s. skipped-nowhere gregorian-accepted s fourth-borne) p)))
+
+pub fourth-of-june : {a : Dated} → NthDate Gregorian (pos 5_874_898) 6 4 a → a ≡ refused 7 (pos 5_874_898)
+fourth-of-june {a} h =
+    at-ymd-one Gregorian (pos 5_874_898) 6 4 a (refused 7 (pos 5_874_898))
+    (date-of-place Gregorian (pos 5_874_898) 6 (borne (number (pos 2_147_483_648, fourth-label, fourth-place))) h) (borne (on-label fourth-label (refuses past-32-bits)))
