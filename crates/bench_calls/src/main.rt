@@ -11,8 +11,8 @@ use libc::STDIN_FILENO;
 use libc::STDOUT_FILENO;
 use numbertext::Number;
 
-// ---- The inputs: 4096 days of the years 1 to 2100. Day number and year are at 2 i in `signs`; ordinal, month, day and day ordinal at 4 i in
-// `counts`; the text at 16 i in `texts`, whose last byte tells its length
+// ---- The inputs: 4096 days of the years 1 to 2100. Day number and year are at 2 i in `signs`; ordinal, month, day, day ordinal and the length
+// of the text at 8 i in `counts`; the text at 16 i in `texts`
 
 // The program that runs the crate has the same generator.
 fn next(x: u64) -> u64
@@ -48,34 +48,34 @@ fn put_signs(signs: &mut [i32], i: usize, d: Date)
 fn put_counts(counts: &mut [u32], i: usize, d: Date)
     requires { ⌜ i < 4096 ⌝ }
 {
-    set_count(counts, 4 * i, d.ordinal);
-    set_count(counts, 4 * i + 1, d.month);
-    set_count(counts, 4 * i + 2, d.day);
-    set_count(counts, 4 * i + 3, d.day_ordinal);
+    set_count(counts, 8 * i, d.ordinal);
+    set_count(counts, 8 * i + 1, d.month);
+    set_count(counts, 8 * i + 2, d.day);
+    set_count(counts, 8 * i + 3, d.day_ordinal);
 }
 
-fn text_size(d: Date, text: &mut [u8]) -> u8 {
+fn text_size(d: Date, text: &mut [u8]) -> u32 {
     match datetext::write_ymd(text, d.year, d.month, d.day) {
-        datetext::Written::Done(n) => (n % 16) as u8,
+        datetext::Written::Done(n) => (n % 16) as u32,
         datetext::Written::Refused(_) => 0,
     }
 }
 
-fn put_text(texts: &mut [u8], i: usize, d: Date)
+fn put_text(texts: &mut [u8], i: usize, d: Date) -> u32
     requires { ⌜ (i < 4096) × (length (now texts) ≡ 65536) ⌝ }
 {
     let start = 16 * i;
-    let end = 16 * i + 15;
-    let size = text_size(d, &mut texts[start..end]);
-    texts[end] = size;
+    let end = 16 * i + 16;
+    text_size(d, &mut texts[start..end])
 }
 
 fn put(signs: &mut [i32], counts: &mut [u32], texts: &mut [u8], i: usize, d: Date)
-    requires { ⌜ (i < 4096) × (length (now signs) ≡ 8192) × (length (now counts) ≡ 16384) × (length (now texts) ≡ 65536) ⌝ }
+    requires { ⌜ (i < 4096) × (length (now signs) ≡ 8192) × (length (now counts) ≡ 32768) × (length (now texts) ≡ 65536) ⌝ }
 {
     put_signs(signs, i, d);
     put_counts(counts, i, d);
-    put_text(texts, i, d);
+    let size = put_text(texts, i, d);
+    set_count(counts, 8 * i + 4, size);
 }
 
 fn put_day(
@@ -86,7 +86,7 @@ fn put_day(
     i: usize,
     jdn: i32,
 )
-    requires { ⌜ (i < 4096) × (length (now signs) ≡ 8192) × (length (now counts) ≡ 16384) × (length (now texts) ≡ 65536) ⌝ }
+    requires { ⌜ (i < 4096) × (length (now signs) ≡ 8192) × (length (now counts) ≡ 32768) × (length (now texts) ≡ 65536) ⌝ }
 {
     match calendar.at_jdn(jdn) {
         Dated::Date(d) => put(signs, counts, texts, i, d),
@@ -95,7 +95,7 @@ fn put_day(
 }
 
 fn prepare(calendar: Calendar, signs: &mut [i32], counts: &mut [u32], texts: &mut [u8])
-    requires { ⌜ (length (now signs) ≡ 8192) × (length (now counts) ≡ 16384) × (length (now texts) ≡ 65536) ⌝ }
+    requires { ⌜ (length (now signs) ≡ 8192) × (length (now counts) ≡ 32768) × (length (now texts) ≡ 65536) ⌝ }
 {
     let mut x: u64 = 1;
     let mut i: usize = 0;
@@ -131,22 +131,22 @@ fn added(sum: u64, answer: Dated) -> u64 {
 // ---- The calls, the k-th one over all rounds
 
 fn date_at(calendar: Calendar, signs: &[i32], counts: &[u32], i: usize) -> Date
-    requires { ⌜ (i < 4096) × (length (now signs) ≡ 8192) × (length (now counts) ≡ 16384) ⌝ }
+    requires { ⌜ (i < 4096) × (length (now signs) ≡ 8192) × (length (now counts) ≡ 32768) ⌝ }
 {
     Date {
         calendar: calendar,
         year: signs[2 * i + 1],
-        ordinal: counts[4 * i],
-        month: counts[4 * i + 1],
-        day: counts[4 * i + 2],
-        day_ordinal: counts[4 * i + 3],
+        ordinal: counts[8 * i],
+        month: counts[8 * i + 1],
+        day: counts[8 * i + 2],
+        day_ordinal: counts[8 * i + 3],
         jdn: signs[2 * i],
     }
 }
 
 // The sum alone, of the records as they were prepared.
 fn no_call(calendar: Calendar, signs: &[i32], counts: &[u32], k: u64, sum: u64) -> u64
-    requires { ⌜ (length (now signs) ≡ 8192) × (length (now counts) ≡ 16384) ⌝ }
+    requires { ⌜ (length (now signs) ≡ 8192) × (length (now counts) ≡ 32768) ⌝ }
 {
     let i = (k % 4096) as usize;
     plus(sum, fields(date_at(calendar, signs, counts, i)))
@@ -160,26 +160,27 @@ fn jdn_call(calendar: Calendar, signs: &[i32], k: u64, sum: u64) -> u64
 }
 
 fn ymd_call(calendar: Calendar, signs: &[i32], counts: &[u32], k: u64, sum: u64) -> u64
-    requires { ⌜ (length (now signs) ≡ 8192) × (length (now counts) ≡ 16384) ⌝ }
+    requires { ⌜ (length (now signs) ≡ 8192) × (length (now counts) ≡ 32768) ⌝ }
 {
     let i = (k % 4096) as usize;
     added(
         sum,
-        calendar.at_ymd(signs[2 * i + 1], counts[4 * i + 1], counts[4 * i + 2]),
+        calendar.at_ymd(signs[2 * i + 1], counts[8 * i + 1], counts[8 * i + 2]),
     )
 }
 
-fn parse_call(calendar: Calendar, texts: &[u8], k: u64, sum: u64) -> u64
-    requires { ⌜ length (now texts) ≡ 65536 ⌝ }
+fn parse_call(calendar: Calendar, counts: &[u32], texts: &[u8], k: u64, sum: u64) -> u64
+    requires { ⌜ (length (now counts) ≡ 32768) × (length (now texts) ≡ 65536) ⌝ }
 {
-    let start = 16 * ((k % 4096) as usize);
-    let size = (texts[start + 15] % 16) as usize;
+    let i = (k % 4096) as usize;
+    let size = (counts[8 * i + 4] % 16) as usize;
+    let start = 16 * i;
     let end = start + size;
     added(sum, dateparse::parse_date(calendar, &texts[start..end]))
 }
 
 fn succ_call(calendar: Calendar, signs: &[i32], counts: &[u32], k: u64, sum: u64) -> u64
-    requires { ⌜ (length (now signs) ≡ 8192) × (length (now counts) ≡ 16384) ⌝ }
+    requires { ⌜ (length (now signs) ≡ 8192) × (length (now counts) ≡ 32768) ⌝ }
 {
     let i = (k % 4096) as usize;
     added(sum, date_at(calendar, signs, counts, i).succ())
@@ -188,7 +189,7 @@ fn succ_call(calendar: Calendar, signs: &[i32], counts: &[u32], k: u64, sum: u64
 // ---- The loops that are counted
 
 fn no_calls(calendar: Calendar, signs: &[i32], counts: &[u32], calls: u64) -> u64
-    requires { ⌜ (length (now signs) ≡ 8192) × (length (now counts) ≡ 16384) ⌝ }
+    requires { ⌜ (length (now signs) ≡ 8192) × (length (now counts) ≡ 32768) ⌝ }
 {
     let mut sum: u64 = 0;
     let mut k: u64 = 0;
@@ -212,7 +213,7 @@ fn jdn_calls(calendar: Calendar, signs: &[i32], calls: u64) -> u64
 }
 
 fn ymd_calls(calendar: Calendar, signs: &[i32], counts: &[u32], calls: u64) -> u64
-    requires { ⌜ (length (now signs) ≡ 8192) × (length (now counts) ≡ 16384) ⌝ }
+    requires { ⌜ (length (now signs) ≡ 8192) × (length (now counts) ≡ 32768) ⌝ }
 {
     let mut sum: u64 = 0;
     let mut k: u64 = 0;
@@ -223,20 +224,20 @@ fn ymd_calls(calendar: Calendar, signs: &[i32], counts: &[u32], calls: u64) -> u
     sum
 }
 
-fn parse_calls(calendar: Calendar, texts: &[u8], calls: u64) -> u64
-    requires { ⌜ length (now texts) ≡ 65536 ⌝ }
+fn parse_calls(calendar: Calendar, counts: &[u32], texts: &[u8], calls: u64) -> u64
+    requires { ⌜ (length (now counts) ≡ 32768) × (length (now texts) ≡ 65536) ⌝ }
 {
     let mut sum: u64 = 0;
     let mut k: u64 = 0;
     while k < calls {
-        sum = parse_call(calendar, texts, k, sum);
+        sum = parse_call(calendar, counts, texts, k, sum);
         k += 1;
     }
     sum
 }
 
 fn succ_calls(calendar: Calendar, signs: &[i32], counts: &[u32], calls: u64) -> u64
-    requires { ⌜ (length (now signs) ≡ 8192) × (length (now counts) ≡ 16384) ⌝ }
+    requires { ⌜ (length (now signs) ≡ 8192) × (length (now counts) ≡ 32768) ⌝ }
 {
     let mut sum: u64 = 0;
     let mut k: u64 = 0;
@@ -258,12 +259,12 @@ fn calendar_of(letter: u8) -> Calendar {
 }
 
 fn run(call: u8, calendar: Calendar, signs: &[i32], counts: &[u32], texts: &[u8], calls: u64) -> u64
-    requires { ⌜ (length (now signs) ≡ 8192) × (length (now counts) ≡ 16384) × (length (now texts) ≡ 65536) ⌝ }
+    requires { ⌜ (length (now signs) ≡ 8192) × (length (now counts) ≡ 32768) × (length (now texts) ≡ 65536) ⌝ }
 {
     match call {
         b'j' => jdn_calls(calendar, signs, calls),
         b'y' => ymd_calls(calendar, signs, counts, calls),
-        b'p' => parse_calls(calendar, texts, calls),
+        b'p' => parse_calls(calendar, counts, texts, calls),
         b's' => succ_calls(calendar, signs, counts, calls),
         _ => no_calls(calendar, signs, counts, calls),
     }
@@ -283,7 +284,7 @@ fn obey(call: u8, calendar: Calendar, rounds: u64) -> u64
     requires { ⌜ rounds < 4294967296 ⌝ }
 {
     let mut signs = [0i32; 8192];
-    let mut counts = [0u32; 16384];
+    let mut counts = [0u32; 32768];
     let mut texts = [0u8; 65536];
     prepare(calendar, &mut signs, &mut counts, &mut texts);
     run(call, calendar, &signs, &counts, &texts, 4096 * rounds)

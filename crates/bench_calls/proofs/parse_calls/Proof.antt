@@ -10,10 +10,10 @@ use Rattle.bench_calls.proofs.parse_calls.Lts as lts
 use Rattle.bench_calls.proofs.parse_call.Reads as parse-call-reads
 
 abbrev Inv-loop : tie.InvT-loop
-Inv-loop calendar texts calls sum₀ k₀ sum k = (length texts ≡ 65536) × (k ≤ calls)
+Inv-loop calendar counts texts calls sum₀ k₀ sum k = (length counts ≡ 32768) × (length texts ≡ 65536) × (k ≤ calls)
 
 abbrev μ-loop : tie.MeasureT-loop
-μ-loop calendar texts calls sum₀ k₀ sum k = calls - k
+μ-loop calendar counts texts calls sum₀ k₀ sum k = calls - k
 
 loop-holds : tie.Need-loop-holds Inv-loop μ-loop
 loop-holds c = search needs

@@ -13,7 +13,7 @@ use Rattle.bench_calls.proofs.put_day.Reads as put-day-reads
 
 abbrev Inv-loop : tie.InvT-loop
 Inv-loop calendar signs₀ counts₀ texts₀ x₀ i₀ signs counts texts x i =
-    (length signs ≡ length signs₀) × (length counts ≡ length counts₀) × (length texts ≡ length texts₀) × (length signs ≡ 8192) × (length counts ≡ 16384) × (length texts ≡ 65536) × (x < 2147483648) × (i ≤ 4096)
+    (length signs ≡ length signs₀) × (length counts ≡ length counts₀) × (length texts ≡ length texts₀) × (length signs ≡ 8192) × (length counts ≡ 32768) × (length texts ≡ 65536) × (x < 2147483648) × (i ≤ 4096)
 
 abbrev μ-loop : tie.MeasureT-loop
 μ-loop calendar signs₀ counts₀ texts₀ x₀ i₀ signs counts texts x i = 4096 - i

@@ -10,7 +10,7 @@ use Rattle.bench_calls.proofs.ymd_calls.Lts as lts
 use Rattle.bench_calls.proofs.ymd_call.Reads as ymd-call-reads
 
 abbrev Inv-loop : tie.InvT-loop
-Inv-loop calendar signs counts calls sum₀ k₀ sum k = (length signs ≡ 8192) × (length counts ≡ 16384) × (k ≤ calls)
+Inv-loop calendar signs counts calls sum₀ k₀ sum k = (length signs ≡ 8192) × (length counts ≡ 32768) × (k ≤ calls)
 
 abbrev μ-loop : tie.MeasureT-loop
 μ-loop calendar signs counts calls sum₀ k₀ sum k = calls - k
