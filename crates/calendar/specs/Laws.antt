@@ -507,6 +507,10 @@ not-genuine {d} {t} (record-of i) n g =
     let e : d ≡ t = record-one (d .calendar) (g .is-record) i in
     n (record { years = ap (λ (d : Date). d .year) e; ordinals = ap (λ (d : Date). d .ordinal) e; months = ap (λ (d : Date). d .month) e; days = ap (λ (d : Date). d .day) e; day-ordinals = ap (λ (d : Date). d .«day_ordinal») e })
 
+-- what is promised for a day number is promised for the same number written otherwise
+pub at-same-jdn : {c : Calendar} {n m : ℤ} {a : Dated} → n ≡ m → AtJdn c n a → AtJdn c m a
+at-same-jdn {c} {a = a} e p = subst (λ (k : ℤ). AtJdn c k a) e p
+
 -- from the record of its day number in its calendar
 pub genuine-compared : (d t : Date) (b : Bool) → AtJdn (d .calendar) (d .jdn) (Dated′.Date t) → SameFields d t b → IsGenuine d b
 genuine-compared d t true (passes a r) s = genuine-by r a s

@@ -3,7 +3,7 @@
 use Prim.Native.Nat.{_-_}
 use borrow.Author.Needs.{needs, sfits-of}
 use mir.Facts.{toZ-ofZ}
-use Rattle.calendar.specs.Laws.{genuine-refused, genuine-compared}
+use Rattle.calendar.specs.Laws.{at-same-jdn, genuine-refused, genuine-compared}
 use Rattle.calendar.proofs.Date.is_genuine.Statement.{statement}
 use Rattle.calendar.proofs.Date.is_genuine.Tie as tie
 
@@ -20,13 +20,13 @@ same-fields-requires : tie.Need-same-fields-requires
 same-fields-requires c κs = search needs
 
 returns : tie.Need-returns
-returns c = genuine-refused (c .enum-told .given .1) (rw (toZ-ofZ (sfits-of (c .before .before .before .struct-told .given .1 .1 .1 .1 .1 .1 .0 .1))) at (c .before .before .at-jdn .ensures))
+returns c = genuine-refused (c .enum-told .given .1) (at-same-jdn (toZ-ofZ (sfits-of (c .before .before .before .struct-told .given .1 .1 .1 .1 .1 .1 .0 .1))) (c .before .before .at-jdn .ensures))
 
 returns-2 : tie.Need-returns-2
 returns-2 c =
     let a = c .before .before .before .before in
     genuine-compared (a .before .before .args .self) (c .before .before .given .given .0 .0) (c .same-fields .result)
-    (rw (toZ-ofZ (sfits-of (a .before .struct-told .given .1 .1 .1 .1 .1 .1 .0 .1))) at (rw (c .before .before .given .given .1) at (a .at-jdn .ensures))) (c .same-fields .ensures)
+    (at-same-jdn (toZ-ofZ (sfits-of (a .before .struct-told .given .1 .1 .1 .1 .1 .1 .0 .1))) (rw (c .before .before .given .given .1) at (a .at-jdn .ensures))) (c .same-fields .ensures)
 
 pub is-genuine-spec : {M : Type 1} → statement M
 is-genuine-spec =
