@@ -186,7 +186,7 @@ fn signed_width(negative: bool, k: usize) -> usize
 }
 
 // Whether a text of `size` bytes has room from `at` on.
-fn has_room(len: usize, at: usize, size: usize) -> bool
+pub fn has_room(len: usize, at: usize, size: usize) -> bool
     ensures { λ r. ⌜ r ≡ leb (at + size) len ⌝ }
 {
     if len < at {
@@ -195,7 +195,7 @@ fn has_room(len: usize, at: usize, size: usize) -> bool
     size <= len - at
 }
 
-fn put_at(buf: &mut [u8], at: usize, negative: bool, n: u64) -> Written
+pub fn put_at(buf: &mut [u8], at: usize, negative: bool, n: u64) -> Written
     ensures { λ r. ⌜ Writes (Signs negative n) (now (buf .entry)) at (now (buf .exit)) r ⌝ }
 {
     let k = width(n);

@@ -1,0 +1,223 @@
+-- Blocks of input, cut into lines.
+-- Assumes nothing.
+use Prim.Native.Nat.{ℕ, suc, _+_, _-_, _≤_, _<_}
+use mathlib.Core.Path.{_≡_, refl, sym, _∙_, ap, subst}
+use mathlib.Core.List.{List, [], _∷_, _++_, append-assoc, append-nil}
+use mathlib.Core.Logic.{⊎-elim}
+use native.Mathlib.Omega.{arith}
+use lib.ListN.{length, getD, take, drop, length-append, length-drop}
+use lib.Seq.{take-all, drop-cons, take-at, drop-at, drop-length, take-length}
+use Rattle.whole.specs.Tests.{lt-or-ge}
+use lib.IntN.{pos}
+use Rattle.calendar.specs.declared.Dated.{Dated}
+use Rattle.calendar.specs.declared.Dated.the-variants as Dated′
+use Rattle.calendar.specs.Promise.{refusal}
+use Rattle.datetext.specs.Writing.{put, Writes}
+use Rattle.datetext.specs.Puts.{put-none, length-put, So, wrote, left-alone}
+use Rattle.datetext.specs.declared.Written.{Written}
+use Rattle.numbertext.specs.Numerals.{refusal as textRefusal}
+use Rattle.ncal.specs.Table.{bytes}
+use Rattle.calendar.specs.declared.Refusal.{Refusal}
+use Rattle.listing.specs.Lines.{header, tab, newline, Without, Entry, tabbed, bare, LineAnswer}
+use Rattle.listing.specs.Columns.{Text, text-as, Ended, LineOf}
+
+-- ---- up to a byte
+
+-- from `from` on the bytes go without b up to the place r, where b stands or they end
+pub data UpTo (b : ℕ) (s : List ℕ) (from : ℕ) (r : ℕ) : Type 0 where
+  stands : {q : List ℕ} (u : List ℕ) → drop from s ≡ q ++ (b ∷ u) → Without b q → r ≡ from + length q → UpTo b s from r
+  ends : {q : List ℕ} → drop from s ≡ q → Without b q → r ≡ from + length q → UpTo b s from r
+
+pub record Going (b : ℕ) (s : List ℕ) (from i : ℕ) : Type 0 where
+  pub passed : List ℕ
+  pub is : drop from s ≡ passed ++ drop i s
+  pub without : Without b passed
+  pub place : i ≡ from + length passed
+  pub inside : i ≤ length s
+
+without-more : {b x : ℕ} {s : List ℕ} → Without b s → (x ≡ b → ⊥) → Without b (s ++ (x ∷ []))
+without-more Without.none n = Without.more n Without.none
+without-more (Without.more m w) n = Without.more m (without-more w n)
+
+pub going-start : (b : ℕ) (s : List ℕ) (from : ℕ) → from ≤ length s → Going b s from from
+going-start b s from h = record { passed = []; is = refl; without = Without.none; place = omega arith; inside = h }
+
+module _ {b : ℕ} {s : List ℕ} {from i : ℕ} (g : Going b s from i) where
+  pub going-on : i < length s → (getD s i 0 ≡ b → ⊥) → Going b s from (i + 1)
+  going-on h n =
+      record {
+        passed = g .passed ++ (getD s i 0 ∷ []);
+        is = g .is ∙ ap (λ (x : List ℕ). g .passed ++ x) (drop-cons s i 0 h) ∙ sym (append-assoc (g .passed) (getD s i 0 ∷ []) (drop (suc i) s)) ∙ ap (λ (k : ℕ). (g .passed ++ (getD s i 0 ∷ [])) ++ drop k s) one-on;
+        without = without-more (g .without) n;
+        place = omega (arith, g .place, length-append (g .passed) (getD s i 0 ∷ []));
+        inside = omega arith;
+      }
+    where
+      one-on : suc i ≡ i + 1
+      one-on = omega arith
+
+  pub going-found : i < length s → getD s i 0 ≡ b → UpTo b s from i
+  going-found h e = UpTo.stands (drop (suc i) s) (g .is ∙ ap (λ (x : List ℕ). g .passed ++ x) (drop-cons s i 0 h ∙ ap (λ (x : ℕ). x ∷ drop (suc i) s) e)) (g .without) (g .place)
+
+  pub going-ended : length s ≤ i → UpTo b s from i
+  going-ended h = UpTo.ends (g .is ∙ ap (λ (x : List ℕ). g .passed ++ x) none ∙ append-nil (g .passed)) (g .without) (g .place)
+    where
+      none : drop i s ≡ []
+      none = let e : i ≡ length s = omega (arith, g .inside) in ap (λ (k : ℕ). drop k s) e ∙ drop-length s
+
+-- ---- the parts of a line
+
+pub entry-tabbed : {l : List ℕ} {k : ℕ} → UpTo tab l 0 k → k < length l → Entry l (take k l) (drop (k + 1) l)
+entry-tabbed {l} {k} (UpTo.stands {q} u e w p) h =
+    subst (λ (x : List ℕ). Entry x (take k x) (drop (k + 1) x)) (sym e)
+    (subst (λ (x : List ℕ). Entry (q ++ (tab ∷ u)) x (drop (k + 1) (q ++ (tab ∷ u)))) (sym (take-at q (tab ∷ u) k (omega arith)))
+    (subst (λ (x : List ℕ). Entry (q ++ (tab ∷ u)) q x) (sym rest) (tabbed w)))
+  where
+    rest : drop (k + 1) (q ++ (tab ∷ u)) ≡ u
+    rest = ap (drop (k + 1)) (sym (append-assoc q (tab ∷ []) u)) ∙ drop-at (q ++ (tab ∷ [])) u (k + 1) (length-append q (tab ∷ []) ∙ omega arith)
+entry-tabbed {l} {k} (UpTo.ends {q} e w p) h = absurd (omega (arith, ap length e))
+
+pub entry-bare : {l : List ℕ} {k : ℕ} → UpTo tab l 0 k → length l ≤ k → Entry l (take k l) (drop k l)
+entry-bare {l} {k} (UpTo.stands {q} u e w p) h = absurd (omega (arith, ap length e, length-append q (tab ∷ u)))
+entry-bare {l} {k} (UpTo.ends {q} e w p) h =
+    let n : k ≡ length l = omega (arith, ap length e) in
+    subst (λ (i : ℕ). Entry l (take i l) (drop i l)) (sym n)
+    (subst (λ (x : List ℕ). Entry l x (drop (length l) l)) (sym (take-length l))
+    (subst (Entry l l) (sym (drop-length l)) (bare (subst (Without tab) (sym e) w))))
+
+-- the name of a line, whatever its text
+pub entry-some : {l : List ℕ} {k : ℕ} → UpTo tab l 0 k → (t : List ℕ) × Entry l (take k l) t
+entry-some {l} {k} b = ⊎-elim (λ h. (drop (k + 1) l, entry-tabbed b h)) (λ h. (drop k l, entry-bare b h)) (lt-or-ge k (length l))
+
+-- a part of a slice that goes on to its end
+pub to-the-end : (k : ℕ) (s : List ℕ) → take (length s - k) (drop k s) ≡ drop k s
+to-the-end k s = take-all (length s - k) (drop k s) (omega (arith, length-drop k s))
+
+-- ---- an unfinished line, in the line buffer: n bytes of it stand there, or it is too long, and n is above 512
+
+-- the bytes q are added to it
+pub data Fills (l : List ℕ) (n : ℕ) (q : List ℕ) : List ℕ → ℕ → Type 0 where
+  fits : n + length q ≤ 512 → Fills l n q (put l n q) (n + length q)
+  over : 512 < n + length q → Fills l n q l 513
+
+-- the answer to the line, when it is finished
+pub data HeldAnswer (l : List ℕ) (n : ℕ) : Dated → Type 0 where
+  short : {a : Dated} → n ≤ 512 → LineAnswer (take n l) a → HeldAnswer l n a
+  long : 512 < n → HeldAnswer l n (Dated′.Refused (refusal 20 (pos 0)))
+
+pub data HeldLine (l : List ℕ) (n : ℕ) : List ℕ → Type 0 where
+  held-line : {a : Dated} {t : List ℕ} → HeldAnswer l n a → Ended a t → HeldLine l n t
+
+-- the last line, which needs no newline; none where nothing is held
+pub data LastLine (l : List ℕ) : ℕ → List ℕ → Type 0 where
+  no-more : LastLine l 0 []
+  one-more : {n : ℕ} {t : List ℕ} → 0 < n → HeldLine l n t → LastLine l n t
+
+-- ---- a block, from a place on: where the listing stands in it
+
+pub record Stand : Type 0 where
+  pub at : ℕ
+  pub line : List ℕ
+  pub held : ℕ
+  pub out : List ℕ
+  pub used : ℕ
+
+abbrev pub stand : ℕ → List ℕ → ℕ → List ℕ → ℕ → Stand
+stand at l n o u = record { at = at; line = l; held = n; out = o; used = u }
+
+-- one line more, or the rest of the block where its last line goes on in the next one
+pub data Turn (b : List ℕ) (s : Stand) : Stand → Type 0 where
+  rest : {q l : List ℕ} {n : ℕ} → drop (s .at) b ≡ q → Without newline q → Fills (s .line) (s .held) q l n → Turn b s (stand (s .at + length q) l n (s .out) (s .used))
+  line : {q l t : List ℕ} {n : ℕ} (u : List ℕ) → drop (s .at) b ≡ q ++ (newline ∷ u) → Without newline q → Fills (s .line) (s .held) q l n → HeldLine l n t → length t ≤ 132
+      → Turn b s (stand (s .at + length q + 1) l 0 (put (s .out) (s .used) t) (s .used + length t))
+
+-- line after line, as long as the block has bytes and the output has room for the longest line, 132 bytes
+pub data Lists (b : List ℕ) : Stand → Stand → Type 0 where
+  block-ends : {s : Stand} → length b ≤ s .at → Lists b s s
+  out-of-room : {s : Stand} → length (s .out) < s .used + 132 → Lists b s s
+  goes-on : {s t e : Stand} → s .at < length b → s .used + 132 ≤ length (s .out) → Turn b s t → Lists b t e → Lists b s e
+
+pub fills-room : {l : List ℕ} {n : ℕ} {q l′ : List ℕ} {i : ℕ} → n + length q ≤ 512 → So l n q l′ i → Fills l n q l′ i
+fills-room {l} {n} {q} {l′} {i} h s = subst (λ (x : List ℕ). Fills l n q x i) (sym (s .is)) (subst (Fills l n q (put l n q)) (sym (s .place)) (Fills.fits h))
+
+-- a line that was held is written
+line-held : {l : List ℕ} {n : ℕ} {a : Dated} {o : List ℕ} {u : ℕ} {o′ : List ℕ} {u′ : ℕ} → HeldAnswer l n a → LineOf a o u o′ u′ → Text (HeldLine l n) 132 o u o′ u′
+line-held {l} {n} h t = text-as t (λ v e. HeldLine.held-line h e) (omega arith)
+
+-- ---- what one turn does
+
+module _ {b : List ℕ} {at end : ℕ} {l : List ℕ} {n : ℕ} {o : List ℕ} {u : ℕ} {l′ : List ℕ} {n′ : ℕ} (f : Fills l n (take (end - at) (drop at b)) l′ n′) where
+  pub turn-rest : UpTo newline b at end → length b ≤ end → at < length b → Turn b (stand at l n o u) (stand end l′ n′ o u)
+  turn-rest (UpTo.stands {q} v e w p) h i = absurd (omega (arith, ap length e, length-append q (newline ∷ v), length-drop at b))
+  turn-rest (UpTo.ends {q} e w p) h i =
+      subst (λ (k : ℕ). Turn b (stand at l n o u) (stand k l′ n′ o u)) (sym p)
+      (Turn.rest e w (subst (λ (x : List ℕ). Fills l n x l′ n′) (ap (take (end - at)) e ∙ take-all (end - at) q (omega arith)) f))
+
+  pub turn-line : {a : Dated} {o′ : List ℕ} {u′ : ℕ} → UpTo newline b at end → end < length b → at ≤ length b → HeldAnswer l′ n′ a → LineOf a o u o′ u′ → Turn b (stand at l n o u) (stand (end + 1) l′ 0 o′ u′)
+  turn-line (UpTo.ends {q} e w p) h i g t = absurd (omega (arith, ap length e, length-drop at b))
+  turn-line {o′ = o′} {u′} (UpTo.stands {q} v e w p) h i g t =
+      let x = line-held g t in
+      subst (λ (k : ℕ). Turn b (stand at l n o u) (stand (k + 1) l′ 0 o′ u′)) (sym p)
+      (subst (λ (y : List ℕ). Turn b (stand at l n o u) (stand (at + length q + 1) l′ 0 y u′)) (sym (x .so .is))
+      (subst (λ (k : ℕ). Turn b (stand at l n o u) (stand (at + length q + 1) l′ 0 (put o u (x .text)) k)) (sym (x .so .place))
+      (Turn.line v e w (subst (λ (y : List ℕ). Fills l n y l′ n′) (ap (take (end - at)) e ∙ take-at q (newline ∷ v) (end - at) (omega arith)) f) (x .is) (x .short))))
+
+pub turn-grows : {b : List ℕ} {s t : Stand} → Turn b s t → s .at < length b → s .at < t .at
+turn-grows {b} {s} (Turn.rest {q} e w f) h = omega (arith, ap length e, length-drop (s .at) b)
+turn-grows {b} {s} (Turn.line {q} v e w f g m) h = omega arith
+
+turn-inside : {b : List ℕ} {s t : Stand} → Turn b s t → s .used + 132 ≤ length (s .out) → (length (t .out) ≡ length (s .out)) × (t .used ≤ length (s .out))
+turn-inside (Turn.rest e w f) h = (refl, omega arith)
+turn-inside {s = s} (Turn.line {t = t} v e w f g m) h = (length-put (s .out) (s .used) t (omega arith), omega arith)
+
+-- ---- line after line: what is still to come leads from where the block was begun
+
+pub record Listing (b : List ℕ) (s t : Stand) : Type 0 where
+  pub onward : (e : Stand) → Lists b t e → Lists b s e
+  pub long : length (t .out) ≡ length (s .out)
+
+pub listing-start : (b : List ℕ) (s : Stand) → Listing b s s
+listing-start b s = record { onward = λ e r. r; long = refl }
+
+pub listing-on : {b : List ℕ} {s t v : Stand} → Listing b s t → t .at < length b → t .used + 132 ≤ length (t .out) → Turn b t v → length (v .out) ≡ length (t .out) → Listing b s v
+listing-on g h k w m = record { onward = λ e r. g .onward e (Lists.goes-on h k w r); long = m ∙ g .long }
+
+-- where the output has room to begin with, it is not overrun, and the block is read on
+pub lists-inside : {b : List ℕ} {s e : Stand} → Lists b s e → s .used ≤ length (s .out) → e .used ≤ length (s .out)
+lists-inside (Lists.block-ends h) k = k
+lists-inside (Lists.out-of-room h) k = k
+lists-inside (Lists.goes-on h r w l) k = let q = turn-inside w r in omega (arith, lists-inside l (omega (arith, q .0, q .1)), q .0)
+
+lists-on : {b : List ℕ} {s e : Stand} → Lists b s e → s .at ≤ e .at
+lists-on (Lists.block-ends h) = omega arith
+lists-on (Lists.out-of-room h) = omega arith
+lists-on (Lists.goes-on h r w l) = omega (arith, turn-grows w h, lists-on l)
+
+pub lists-grow : {b : List ℕ} {s e : Stand} → Lists b s e → s .at < length b → s .used + 132 ≤ length (s .out) → s .at < e .at
+lists-grow (Lists.block-ends h) i k = absurd (omega arith)
+lists-grow (Lists.out-of-room h) i k = absurd (omega arith)
+lists-grow (Lists.goes-on h r w l) i k = omega (arith, turn-grows w h, lists-on l)
+
+-- ---- the last line
+
+none-is : {l : List ℕ} {n : ℕ} → n ≤ 0 → LastLine l n []
+none-is {l} {n} h = let e : 0 ≡ n = omega arith in subst (λ (k : ℕ). LastLine l k []) e LastLine.no-more
+
+module _ {l : List ℕ} {n : ℕ} {b : List ℕ} {at : ℕ} where
+  pub last-held : {a : Dated} {b′ : List ℕ} {r : Written} → 0 < n → HeldAnswer l n a → Writes (Ended a) b at b′ r → Writes (LastLine l n) b at b′ r
+  last-held h g (Writes.writes t p) = Writes.writes (LastLine.one-more h (HeldLine.held-line g t)) p
+
+  pub last-none : n ≤ 0 → at + 0 ≤ length b → Writes (LastLine l n) b at b (Written.Done at)
+  last-none h k = wrote (none-is h) k (record { is = sym (put-none b at); place = omega arith })
+
+  pub last-left : {f : Refusal} → n ≤ 0 → length b < at + 0 → f ≡ textRefusal 18 0 (pos 0) → Writes (LastLine l n) b at b (Written.Refused f)
+  last-left h k e = left-alone [] (none-is h) refl k e
+
+-- ---- the header
+
+pub header-wrote : {b : List ℕ} {at : ℕ} {t b′ : List ℕ} {i : ℕ} → t ≡ header → at + length t ≤ length b → So b at t b′ i → Writes (λ (u : List ℕ). u ≡ header) b at b′ (Written.Done i)
+header-wrote e h s = wrote e h s
+
+pub header-left : {b : List ℕ} {at : ℕ} {f : Refusal} → length b < at + 35 → f ≡ textRefusal 18 0 (pos 35) → Writes (λ (u : List ℕ). u ≡ header) b at b (Written.Refused f)
+unfolding header bytes
+header-left h e = left-alone header refl refl h e
