@@ -183,10 +183,10 @@ pub listing-on : {b : List ℕ} {s t v : Stand} → Listing b s t → t .at < le
 listing-on g h k w m = record { onward = λ e r. g .onward e (Lists.goes-on h k w r); long = m ∙ g .long }
 
 -- where the output has room to begin with, it is not overrun, and the block is read on
-pub lists-inside : {b : List ℕ} {s e : Stand} → Lists b s e → s .used ≤ length (s .out) → e .used ≤ length (s .out)
+pub lists-inside : {b : List ℕ} {s e : Stand} → Lists b s e → s .used ≤ length (s .out) → e .used ≤ length (e .out)
 lists-inside (Lists.block-ends h) k = k
 lists-inside (Lists.out-of-room h) k = k
-lists-inside (Lists.goes-on h r w l) k = let q = turn-inside w r in omega (arith, lists-inside l (omega (arith, q .0, q .1)), q .0)
+lists-inside (Lists.goes-on h r w l) k = let q = turn-inside w r in lists-inside l (omega (arith, q .0, q .1))
 
 lists-on : {b : List ℕ} {s e : Stand} → Lists b s e → s .at ≤ e .at
 lists-on (Lists.block-ends h) = omega arith

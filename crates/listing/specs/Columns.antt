@@ -19,7 +19,7 @@ use Rattle.calendar.specs.declared.Dated.the-variants as Dated′
 use Rattle.ncal.specs.Table.{bytes}
 use Rattle.datetext.specs.Writing.{WholeDecimal, put, Puts, Writes}
 use Rattle.datetext.specs.Decimals.{digitsOf, length-digits, Width, width-few, decimal-of, counting-start, counting-step}
-use Rattle.datetext.specs.Puts.{put-none, put-byte, put-then, So, so-on, wrote, left-alone, wholeText, Signs, whole-text}
+use Rattle.datetext.specs.Puts.{put-none, put-byte, put-then, length-put, So, so-on, wrote, left-alone, wholeText, Signs, whole-text}
 use Rattle.datetext.specs.declared.Written.{Written}
 use Rattle.listing.specs.Lines.{newline, tab, LineAnswer, Listed, Columns, dateColumns, refusalColumns, LineText, of-date, of-refusal}
 
@@ -247,3 +247,7 @@ text-wrote h t = wrote (t .is) (omega (arith, t .short)) (t .so)
 -- an answer's line is what is written for the line that it answers
 pub listed-as : {l : List ℕ} {a : Dated} {b : List ℕ} {at : ℕ} {b′ : List ℕ} {r : Written} → LineAnswer l a → Writes (Ended a) b at b′ r → Writes (Listed l) b at b′ r
 listed-as {l} {a} q (Writes.writes (ended t) p) = Writes.writes (Listed.listed q t) p
+
+-- what was written lies in the buffer
+pub wrote-inside : {P : List ℕ → Type 0} {b : List ℕ} {at : ℕ} {b′ : List ℕ} {i : ℕ} → Writes P b at b′ (Written.Done i) → i ≤ length b′
+wrote-inside {b = b} {at} (Writes.writes {t} x (Puts.done h)) = omega (arith, length-put b at t h)

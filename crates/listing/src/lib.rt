@@ -319,7 +319,14 @@ fn held_answer(line: &[u8; 512], held: usize) -> Dated
 }
 
 // One line of the block, or what the block has of it.
-fn turn(block: &[u8], at: usize, line: &mut [u8; 512], held: usize, out: &mut [u8], used: usize) -> Progress
+fn turn(
+    block: &[u8],
+    at: usize,
+    line: &mut [u8; 512],
+    held: usize,
+    out: &mut [u8],
+    used: usize,
+) -> Progress
     requires { ⌜ (at < length (now block)) × (used + 132 ≤ length (now out)) ⌝ }
     ensures { λ p. ⌜ Turn (now (block .entry)) (stand at (now (line .entry)) held (now (out .entry)) used) (stand (p .at) (now (line .exit)) (p .held) (now (out .exit)) (p .used)) ⌝ }
 {

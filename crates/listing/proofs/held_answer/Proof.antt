@@ -1,25 +1,19 @@
+-- `listing::held_answer` meets its contract.
+-- Assumes nothing.
 use Rattle.listing.specs.Blocks.{HeldAnswer}
 use borrow.Author.Needs.{needs}
 use Rattle.listing.proofs.held_answer.Statement.{statement}
 use Rattle.listing.proofs.held_answer.Tie as tie
-use Rattle.listing.proofs.held_answer.Reads as reads
-use Rattle.listing.proofs.held_answer.Lts as lts
-use Rattle.calendar.proofs.refusal_of.Reads as refusal-of-reads
-use Rattle.listing.proofs.front_answer.Reads as front-answer-reads
 
--- src/lib.rt:304:9
 front-answer-requires : tie.Need-front-answer-requires
 front-answer-requires c κs = search needs
 
--- src/lib.rt:304:9
 returns : tie.Need-returns
 returns c = HeldAnswer.short (c .before .before .if1 .taken) (c .front-answer .ensures)
 
--- src/lib.rt:306:20
 refusal-of-requires : tie.Need-refusal-of-requires
 refusal-of-requires c κs = search needs
 
--- src/lib.rt:300:1
 returns-2 : tie.Need-returns-2
 returns-2 c = rw (c .refusal-of .ensures) (HeldAnswer.long (c .before .if1 .left))
 

@@ -1,5 +1,7 @@
+-- `listing::line_answer` meets its promise: 20, or the name and the text of the line lead to the answer.
+-- Assumes nothing.
 use Rattle.listing.specs.Blocks.{entry-tabbed, entry-bare, entry-some, to-the-end}
-use lib.Seq.{length-take-le, take-all}
+use lib.Seq.{length-take-le}
 use mathlib.Core.Path.{sym}
 use native.Mathlib.Omega.{arith}
 use Rattle.calendar.specs.Rows.{refuses, passes}
@@ -7,86 +9,61 @@ use Rattle.listing.specs.Lines.{no-name, by-text}
 use borrow.Author.Needs.{needs}
 use Rattle.listing.proofs.line_answer.Statement.{statement}
 use Rattle.listing.proofs.line_answer.Tie as tie
-use Rattle.listing.proofs.line_answer.Reads as reads
-use Rattle.listing.proofs.line_answer.Lts as lts
-use Rattle.calendar.proofs.refusal_of.Reads as refusal-of-reads
-use Rattle.dateparse.proofs.parse_date.Reads as parse-date-reads
-use Rattle.listing.proofs.up_to.Reads as up-to-reads
-use Rattle.ncal.proofs.named.Reads as named-reads
 
--- src/lib.rt:46:31
 refusal-of-requires : tie.Need-refusal-of-requires
 refusal-of-requires c κs = search needs
 
--- src/lib.rt:46:9
 returns : tie.Need-returns
 returns c = rw (c .refusal-of .ensures) (refuses (c .before .if1 .taken))
 
--- src/lib.rt:48:9
 up-to-requires : tie.Need-up-to-requires
 up-to-requires c κs = search needs
 
--- src/lib.rt:49:23
 slice-aggregate-named : tie.Need-slice-aggregate-named
 slice-aggregate-named c = sym (length-take-le _ _ (c .before .up-to .ensures .2))
 
--- src/lib.rt:49:11
 named-requires : tie.Need-named-requires
 named-requires c κs = search needs
 
--- src/lib.rt:50:27
 enum-known-why : tie.Need-enum-known-why
 enum-known-why c = search needs
 
--- src/lib.rt:51:28
 enum-known-calendar : tie.Need-enum-known-calendar
 enum-known-calendar c = search needs
 
--- src/lib.rt:53:28
 add-text : tie.Need-add-text
 add-text c = search needs
 
--- src/lib.rt:54:56
 sub-parse-date : tie.Need-sub-parse-date
 sub-parse-date c = search needs
 
--- src/lib.rt:54:56
 part-parse-date-start : tie.Need-part-parse-date-start
 part-parse-date-start c = search needs
 
--- src/lib.rt:54:56
 part-parse-date-end : tie.Need-part-parse-date-end
 part-parse-date-end c = search needs
 
--- src/lib.rt:54:17
 parse-date-requires : tie.Need-parse-date-requires
 parse-date-requires c κs = search needs
 
--- src/lib.rt:54:17
 returns-2 : tie.Need-returns-2
 returns-2 c = passes (λ h. omega (arith, h, c .before .before .before .before .before .before .before .before .before .if1 .left)) (by-text (entry-tabbed (c .before .before .before .before .before .before .before .before .up-to .ensures .0) (c .before .before .if2 .taken)) (rw (c .before .before .before .before .calendar .given .1) at (c .before .before .before .before .before .before .named .ensures)) (rw (to-the-end _ _) at (c .parse-date .ensures)))
 
--- src/lib.rt:56:45
 sub-parse-date-2 : tie.Need-sub-parse-date-2
 sub-parse-date-2 c = c .before .before .before .before .before .before .up-to .ensures .2
 
--- src/lib.rt:56:45
 part-parse-date-start-2 : tie.Need-part-parse-date-start-2
 part-parse-date-start-2 c = search needs
 
--- src/lib.rt:56:45
 part-parse-date-end-2 : tie.Need-part-parse-date-end-2
 part-parse-date-end-2 c = search needs
 
--- src/lib.rt:56:13
 parse-date-requires-2 : tie.Need-parse-date-requires-2
 parse-date-requires-2 c κs = search needs
 
--- src/lib.rt:42:1
 returns-3 : tie.Need-returns-3
 returns-3 c = passes (λ h. omega (arith, h, c .before .before .before .before .before .before .if1 .left)) (no-name (entry-some (c .before .before .before .before .before .up-to .ensures .0) .1) (rw (c .before .why .given .1) at (c .before .before .before .named .ensures)))
 
--- src/lib.rt:42:1
 returns-4 : tie.Need-returns-4
 returns-4 c = passes (λ h. omega (arith, h, c .before .before .before .before .before .before .before .before .before .if1 .left)) (by-text (entry-bare (c .before .before .before .before .before .before .before .before .up-to .ensures .0) (c .before .before .if2 .left)) (rw (c .before .before .before .before .calendar .given .1) at (c .before .before .before .before .before .before .named .ensures)) (rw (to-the-end _ _) at (c .parse-date2 .ensures)))
 

@@ -1,3 +1,5 @@
+-- `listing::list_block` meets its promise. The loop's invariant is `Listing`: what is still to come leads from where the block was begun. The measure is what is left of the block.
+-- Assumes nothing.
 use Rattle.listing.specs.Blocks.{stand, Lists, Listing, listing-start, listing-on, turn-grows}
 use borrow.Author.Tests.{leb-true, leb-false}
 use mathlib.Core.Path.{sym, _∙_}
@@ -7,10 +9,6 @@ use Prim.Native.Nat.{_-_}
 use borrow.Author.Needs.{needs}
 use Rattle.listing.proofs.list_block.Statement.{statement}
 use Rattle.listing.proofs.list_block.Tie as tie
-use Rattle.listing.proofs.list_block.Reads as reads
-use Rattle.listing.proofs.list_block.Lts as lts
-use Rattle.datetext.proofs.has_room.Reads as has-room-reads
-use Rattle.listing.proofs.turn.Reads as turn-reads
 
 abbrev Inv-loop : tie.InvT-loop
 Inv-loop block from line₀ held out₀ used at₀ n₀ to₀ line out at n to = Listing block (stand from line₀ held out₀ used) (stand at line n out to)
@@ -18,39 +16,30 @@ Inv-loop block from line₀ held out₀ used at₀ n₀ to₀ line out at n to =
 abbrev μ-loop : tie.MeasureT-loop
 μ-loop block from line₀ held out₀ used at₀ n₀ to₀ line out at n to = length block - at
 
--- src/lib.rt:346:5
 loop-holds : tie.Need-loop-holds Inv-loop μ-loop
 loop-holds c = listing-start _ _
 
--- src/lib.rt:347:12
 has-room-requires : tie.Need-has-room-requires Inv-loop μ-loop
 has-room-requires c κs = tt
 
--- src/lib.rt:348:17
 turn-requires : tie.Need-turn-requires Inv-loop μ-loop
 turn-requires c κs = (c .before .before .before .before .loop-test .taken, leb-true _ _ (sym (c .before .before .before .has-room .ensures) ∙ c .before .before .if1 .taken))
 
--- src/lib.rt:346:5
 loop-less : tie.Need-loop-less Inv-loop μ-loop
 loop-less c = omega (arith, turn-grows (c .before .before .turn .ensures) (c .before .before .before .before .before .before .before .loop-test .taken), c .before .before .before .before .before .before .before .loop-test .taken)
 
--- src/lib.rt:346:5
 loop-again : tie.Need-loop-again Inv-loop μ-loop
 loop-again c = listing-on (c .before .before .before .before .before .before .before .before .loop .inv) (c .before .before .before .before .before .before .before .loop-test .taken) (leb-true _ _ (sym (c .before .before .before .before .before .before .has-room .ensures) ∙ c .before .before .before .before .before .if1 .taken)) (c .before .before .turn .ensures) (search needs)
 
--- src/lib.rt:353:13
 same-length : tie.Need-same-length Inv-loop μ-loop
 same-length c = c .before .before .before .loop .inv .long
 
--- src/lib.rt:353:13
 returns : tie.Need-returns Inv-loop μ-loop
 returns c = c .before .before .before .loop .inv .onward _ (Lists.out-of-room (leb-false _ _ (sym (c .before .has-room .ensures) ∙ c .if1 .left)))
 
--- src/lib.rt:333:1
 same-length-2 : tie.Need-same-length-2 Inv-loop μ-loop
 same-length-2 c = c .before .loop .inv .long
 
--- src/lib.rt:333:1
 returns-2 : tie.Need-returns-2 Inv-loop μ-loop
 returns-2 c = c .before .loop .inv .onward _ (Lists.block-ends (c .loop-test .left))
 

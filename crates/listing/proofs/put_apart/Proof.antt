@@ -1,59 +1,42 @@
+-- `listing::put_apart` meets its contract: the text stands at the front of a buffer of its own, from where it is copied, or it has no room.
+-- Assumes nothing.
 use Rattle.listing.specs.Columns.{apart-part, apart-room, apart-done, apart-left}
-use native.Mathlib.Omega.{arith}
 use borrow.Author.Tests.{leb-true, leb-false}
 use mathlib.Core.Path.{sym, _∙_}
-use lib.Seq.{length-take-le}
 use borrow.Author.Needs.{needs}
 use Rattle.listing.proofs.put_apart.Statement.{statement}
 use Rattle.listing.proofs.put_apart.Tie as tie
-use Rattle.listing.proofs.put_apart.Reads as reads
-use Rattle.listing.proofs.put_apart.Lts as lts
-use Rattle.datetext.proofs.has_room.Reads as has-room-reads
-use Rattle.listing.proofs.put_answer.Reads as put-answer-reads
-use Rattle.listing.proofs.put_bytes.Reads as put-bytes-reads
-use Rattle.numbertext.proofs.refusal.Reads as refusal-reads
 
--- src/lib.rt:248:27
 slice-aggregate-put-answer : tie.Need-slice-aggregate-put-answer
 slice-aggregate-put-answer c = search needs
 
--- src/lib.rt:248:9
 put-answer-requires : tie.Need-put-answer-requires
 put-answer-requires c κs = search needs
 
--- src/lib.rt:249:8
 has-room-requires : tie.Need-has-room-requires
 has-room-requires c κs = search needs
 
--- src/lib.rt:250:38
 array-share-prefix-apart : tie.Need-array-share-prefix-apart
 array-share-prefix-apart c = search needs
 
--- src/lib.rt:250:38
 slice-aggregate-put-bytes : tie.Need-slice-aggregate-put-bytes
 slice-aggregate-put-bytes c = apart-part (c .before .before .before .before .before .put-answer .ensures)
 
--- src/lib.rt:250:13
 put-bytes-requires : tie.Need-put-bytes-requires
 put-bytes-requires c κs = apart-room (c .before .before .before .before .before .put-answer .ensures) _ _ (leb-true _ _ (sym (c .before .before .before .has-room .ensures) ∙ c .before .before .if1 .taken))
 
--- src/lib.rt:251:9
 same-length : tie.Need-same-length
 same-length c = search needs
 
--- src/lib.rt:251:9
 returns : tie.Need-returns
 returns c = apart-done (c .before .before .before .before .before .before .before .before .put-answer .ensures) (leb-true _ _ (sym (c .before .before .before .before .before .before .has-room .ensures) ∙ c .before .before .before .before .before .if1 .taken)) (c .before .before .put-bytes .ensures)
 
--- src/lib.rt:253:49
 cast-refusal : tie.Need-cast-refusal
 cast-refusal c = search needs
 
--- src/lib.rt:253:22
 refusal-requires : tie.Need-refusal-requires
 refusal-requires c κs = search needs
 
--- src/lib.rt:244:1
 returns-2 : tie.Need-returns-2
 returns-2 c = apart-left (c .before .before .before .before .put-answer .ensures) (leb-false _ _ (sym (c .before .before .has-room .ensures) ∙ c .before .if1 .left)) (c .refusal .ensures)
 

@@ -1,24 +1,20 @@
+-- `listing::put_byte` meets its contract: a byte stored is a text of one byte put there.
+-- Assumes nothing.
 use mathlib.Core.Path.{refl}
 use Rattle.datetext.specs.Puts.{put-byte}
 use borrow.Author.Needs.{needs}
 use Rattle.listing.proofs.put_byte.Statement.{statement}
 use Rattle.listing.proofs.put_byte.Tie as tie
-use Rattle.listing.proofs.put_byte.Reads as reads
-use Rattle.listing.proofs.put_byte.Lts as lts
 
--- src/lib.rt:67:5
 slice-write-out : tie.Need-slice-write-out
 slice-write-out c = search needs
 
--- src/lib.rt:68:5
 add-result : tie.Need-add-result
 add-result c = search needs
 
--- src/lib.rt:63:1
 same-length : tie.Need-same-length
 same-length c = search needs
 
--- src/lib.rt:63:1
 returns : tie.Need-returns
 returns c = record { is = put-byte _ _ _ (c .pre); place = refl }
 

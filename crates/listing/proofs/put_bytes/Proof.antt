@@ -1,11 +1,11 @@
+-- `listing::put_bytes` meets its contract. The loop's invariant is `Copying`: the first bytes of the text stand in the buffer. The measure is how many are left.
+-- Assumes nothing.
 use Rattle.listing.specs.Columns.{Copying, copying-start, copying-on, copying-done}
 use native.Mathlib.Omega.{arith}
 use Prim.Native.Nat.{_-_}
 use lib.ListN.{length}
 use Rattle.listing.proofs.put_bytes.Statement.{statement}
 use Rattle.listing.proofs.put_bytes.Tie as tie
-use Rattle.listing.proofs.put_bytes.Reads as reads
-use Rattle.listing.proofs.put_bytes.Lts as lts
 
 abbrev Inv-loop : tie.InvT-loop
 Inv-loop out₀ at text i₀ out i = Copying out₀ at text out i
@@ -13,43 +13,33 @@ Inv-loop out₀ at text i₀ out i = Copying out₀ at text out i
 abbrev μ-loop : tie.MeasureT-loop
 μ-loop out₀ at text i₀ out i = length text - i
 
--- src/lib.rt:237:5
 loop-holds : tie.Need-loop-holds Inv-loop μ-loop
 loop-holds c = copying-start _ _ _
 
--- src/lib.rt:238:23
 shared-slice-read-out : tie.Need-shared-slice-read-out Inv-loop μ-loop
 shared-slice-read-out c = omega arith
 
--- src/lib.rt:238:13
 add-out : tie.Need-add-out Inv-loop μ-loop
 add-out c = omega arith
 
--- src/lib.rt:238:9
 slice-write-out : tie.Need-slice-write-out Inv-loop μ-loop
 slice-write-out c = omega (arith, c .before .before .loop .inv .same)
 
--- src/lib.rt:239:9
 add-i : tie.Need-add-i Inv-loop μ-loop
 add-i c = omega arith
 
--- src/lib.rt:237:5
 loop-less : tie.Need-loop-less Inv-loop μ-loop
 loop-less c = omega arith
 
--- src/lib.rt:237:5
 loop-again : tie.Need-loop-again Inv-loop μ-loop
 loop-again c = copying-on (c .before .before .before .pre) (c .before .before .loop .inv) (c .before .loop-test .taken)
 
--- src/lib.rt:241:5
 add-result : tie.Need-add-result Inv-loop μ-loop
 add-result c = omega arith
 
--- src/lib.rt:232:1
 same-length : tie.Need-same-length Inv-loop μ-loop
 same-length c = c .before .loop .inv .same
 
--- src/lib.rt:232:1
 returns : tie.Need-returns Inv-loop μ-loop
 returns c = copying-done (c .before .before .pre) (c .before .loop .inv) (c .loop-test .left)
 

@@ -1,25 +1,19 @@
+-- `listing::put_count` meets its contract.
+-- Assumes nothing.
 use Rattle.listing.specs.Columns.{count-column}
 use borrow.Author.Needs.{needs}
 use Rattle.listing.proofs.put_count.Statement.{statement}
 use Rattle.listing.proofs.put_count.Tie as tie
-use Rattle.listing.proofs.put_count.Reads as reads
-use Rattle.listing.proofs.put_count.Lts as lts
-use Rattle.listing.proofs.put_byte.Reads as put-byte-reads
-use Rattle.listing.proofs.put_natural.Reads as put-natural-reads
 
--- src/lib.rt:162:9
 put-natural-requires : tie.Need-put-natural-requires
 put-natural-requires c κs = search needs
 
--- src/lib.rt:163:5
 put-byte-requires : tie.Need-put-byte-requires
 put-byte-requires c κs = search needs
 
--- src/lib.rt:158:1
 same-length : tie.Need-same-length
 same-length c = search needs
 
--- src/lib.rt:158:1
 returns : tie.Need-returns
 returns c = count-column (c .before .before .before .before .before .before .before .before .before .pre) (c .before .before .before .before .before .before .put-natural .ensures) (c .before .before .put-byte .ensures)
 

@@ -1,3 +1,5 @@
+-- `listing::put_date` meets its contract: two signed columns before the others (`date-row`).
+-- Assumes nothing.
 use Rattle.listing.specs.Columns.{date-row}
 use mathlib.Core.Path.{ap, _∙_}
 use Rattle.days.specs.DayByDay.{weekday}
@@ -6,35 +8,24 @@ use mir.Facts.{toZ-ofZ}
 use borrow.Author.Needs.{needs, sfits-of}
 use Rattle.listing.proofs.put_date.Statement.{statement}
 use Rattle.listing.proofs.put_date.Tie as tie
-use Rattle.listing.proofs.put_date.Reads as reads
-use Rattle.listing.proofs.put_date.Lts as lts
-use Rattle.calendar.proofs.Weekday.for_jdn.Reads as for-jdn-reads
-use Rattle.listing.proofs.put_int.Reads as put-int-reads
-use Rattle.listing.proofs.put_place.Reads as put-place-reads
 
--- src/lib.rt:200:9
 for-jdn-requires : tie.Need-for-jdn-requires
 for-jdn-requires c κs = search needs
 
--- src/lib.rt:201:9
 put-int-requires : tie.Need-put-int-requires
 put-int-requires c κs = search needs
 
--- src/lib.rt:202:9
 put-int-requires-2 : tie.Need-put-int-requires-2
 put-int-requires-2 c κs = search needs
 
--- src/lib.rt:203:5
 put-place-requires : tie.Need-put-place-requires
 put-place-requires c κs = search needs
 
--- src/lib.rt:196:1
 same-length : tie.Need-same-length
 same-length c = search needs
 
--- src/lib.rt:196:1
 returns : tie.Need-returns
-returns c = 
+returns c =
     let r = toZ-ofZ (sfits-of (c .before .before .before .before .before .before .before .before .before .before .before .before .before .before .before .struct-told .given .1 .1 .1 .1 .1 .1 .0 .1)) in
     date-row (c .before .before .before .before .before .before .before .before .before .before .before .before .before .before .before .before .before .pre) (omega (arith, c .before .before .before .before .before .before .before .before .before .before .before .put-int .kept .0)) (toZ-ofZ (sfits-of (c .before .before .before .before .before .before .before .before .before .before .before .before .struct-told2 .given .1 .1 .1 .1 .1 .1 .0 .1))) (toZ-ofZ (sfits-of (c .before .before .before .before .before .before .before .struct-told3 .given .1 .0 .1))) (c .before .before .before .before .before .before .before .before .before .before .before .before .before .before .for-jdn .ensures ∙ ap weekday r) (c .before .before .before .before .before .before .before .before .before .before .before .put-int .ensures) (c .before .before .before .before .before .before .put-int2 .ensures) (c .before .before .put-place .ensures)
 

@@ -1,32 +1,26 @@
+-- `listing::put_digit` meets its contract: the last digit stored is a text of one byte put there.
+-- Assumes nothing.
 use mathlib.Core.Path.{refl}
 use Rattle.datetext.specs.Puts.{put-byte}
 use borrow.Author.Needs.{needs}
 use Rattle.listing.proofs.put_digit.Statement.{statement}
 use Rattle.listing.proofs.put_digit.Tie as tie
-use Rattle.listing.proofs.put_digit.Reads as reads
-use Rattle.listing.proofs.put_digit.Lts as lts
 
--- src/lib.rt:76:16
 add-out : tie.Need-add-out
 add-out c = search needs
 
--- src/lib.rt:76:15
 cast-out : tie.Need-cast-out
 cast-out c = search needs
 
--- src/lib.rt:76:5
 slice-write-out : tie.Need-slice-write-out
 slice-write-out c = search needs
 
--- src/lib.rt:77:5
 add-result : tie.Need-add-result
 add-result c = search needs
 
--- src/lib.rt:72:1
 same-length : tie.Need-same-length
 same-length c = search needs
 
--- src/lib.rt:72:1
 returns : tie.Need-returns
 returns c = record { is = put-byte _ _ _ (c .pre); place = refl }
 

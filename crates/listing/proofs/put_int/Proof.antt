@@ -1,28 +1,21 @@
+-- `listing::put_int` meets its contract: the wider number is the same number.
+-- Assumes nothing.
 use mir.Facts.{toZ-ofZ}
 use borrow.Author.Needs.{needs, sfits-of}
 use mathlib.Core.Path.{_∙_}
 use Rattle.listing.specs.Columns.{column-as}
-use lib.IntN.{ℤ}
 use Rattle.listing.proofs.put_int.Statement.{statement}
 use Rattle.listing.proofs.put_int.Tie as tie
-use Rattle.listing.proofs.put_int.Reads as reads
-use Rattle.listing.proofs.put_int.Lts as lts
-use Rattle.listing.proofs.put_whole.Reads as put-whole-reads
-use Rattle.whole.proofs.widened.Reads as widened-reads
 
--- src/lib.rt:182:24
 widened-requires : tie.Need-widened-requires
 widened-requires c κs = search needs
 
--- src/lib.rt:182:5
 put-whole-requires : tie.Need-put-whole-requires
 put-whole-requires c κs = search needs
 
--- src/lib.rt:178:1
 same-length : tie.Need-same-length
 same-length c = search needs
 
--- src/lib.rt:178:1
 returns : tie.Need-returns
 returns c = column-as (toZ-ofZ (sfits-of (c .before .before .before .widened .ok)) ∙ c .before .before .before .widened .ensures ∙ toZ-ofZ (c .before .before .before .before .before .before .fits .x)) (c .before .before .put-whole .ensures)
 

@@ -1,40 +1,30 @@
+-- `listing::put_line` meets its contract.
+-- Assumes nothing.
 use Rattle.listing.specs.Columns.{text-wrote}
-use borrow.Author.Tests.{leb-true, leb-false}
+use borrow.Author.Tests.{leb-true}
 use mathlib.Core.Path.{sym, _∙_}
 use borrow.Author.Needs.{needs}
 use Rattle.listing.proofs.put_line.Statement.{statement}
 use Rattle.listing.proofs.put_line.Tie as tie
-use Rattle.listing.proofs.put_line.Reads as reads
-use Rattle.listing.proofs.put_line.Lts as lts
-use Rattle.datetext.proofs.has_room.Reads as has-room-reads
-use Rattle.listing.proofs.put_answer.Reads as put-answer-reads
-use Rattle.listing.proofs.put_apart.Reads as put-apart-reads
 
--- src/lib.rt:259:8
 has-room-requires : tie.Need-has-room-requires
 has-room-requires c κs = search needs
 
--- src/lib.rt:260:13
 put-answer-requires : tie.Need-put-answer-requires
 put-answer-requires c κs = leb-true _ _ (sym (c .before .before .has-room .ensures) ∙ c .before .if1 .taken)
 
--- src/lib.rt:261:9
 same-length : tie.Need-same-length
 same-length c = search needs
 
--- src/lib.rt:261:9
 returns : tie.Need-returns
 returns c = text-wrote (leb-true _ _ (sym (c .before .before .before .before .before .has-room .ensures) ∙ c .before .before .before .before .if1 .taken)) (c .before .before .put-answer .ensures)
 
--- src/lib.rt:263:5
 put-apart-requires : tie.Need-put-apart-requires
 put-apart-requires c κs = search needs
 
--- src/lib.rt:256:1
 same-length-2 : tie.Need-same-length-2
 same-length-2 c = search needs
 
--- src/lib.rt:256:1
 returns-2 : tie.Need-returns-2
 returns-2 c = search needs
 

@@ -1,35 +1,28 @@
+-- `listing::put_place` meets its contract: four columns, joined from the last one on.
+-- Assumes nothing.
 use Rattle.listing.specs.Columns.{row-last, row-more, ends}
 use native.Mathlib.Omega.{arith}
 use borrow.Author.Needs.{needs}
 use Rattle.listing.proofs.put_place.Statement.{statement}
 use Rattle.listing.proofs.put_place.Tie as tie
-use Rattle.listing.proofs.put_place.Reads as reads
-use Rattle.listing.proofs.put_place.Lts as lts
-use Rattle.listing.proofs.put_count.Reads as put-count-reads
 
--- src/lib.rt:190:9
 put-count-requires : tie.Need-put-count-requires
 put-count-requires c κs = search needs
 
--- src/lib.rt:191:9
 put-count-requires-2 : tie.Need-put-count-requires-2
 put-count-requires-2 c κs = search needs
 
--- src/lib.rt:192:9
 put-count-requires-3 : tie.Need-put-count-requires-3
 put-count-requires-3 c κs = search needs
 
--- src/lib.rt:193:5
 put-count-requires-4 : tie.Need-put-count-requires-4
 put-count-requires-4 c κs = search needs
 
--- src/lib.rt:186:1
 same-length : tie.Need-same-length
 same-length c = search needs
 
--- src/lib.rt:186:1
 returns : tie.Need-returns
-returns c = 
+returns c =
     row-more (omega arith) (c .before .before .before .before .before .before .before .before .before .before .before .before .before .before .put-count .ensures) (row-more (omega (arith, ends (c .before .before .before .before .before .before .before .before .before .before .before .before .before .before .put-count .ensures), c .before .before .before .before .before .before .before .before .before .before .before .before .before .before .put-count .kept .0)) (c .before .before .before .before .before .before .before .before .before .before .put-count2 .ensures) (row-more (omega (arith, ends (c .before .before .before .before .before .before .before .before .before .before .before .before .before .before .put-count .ensures), c .before .before .before .before .before .before .before .before .before .before .before .before .before .before .put-count .kept .0, ends (c .before .before .before .before .before .before .before .before .before .before .put-count2 .ensures), c .before .before .before .before .before .before .before .before .before .before .put-count2 .kept .0)) (c .before .before .before .before .before .before .put-count3 .ensures) (row-last (c .before .before .put-count4 .ensures))))
 
 pub put-place-spec : {M : Type 1} → statement M

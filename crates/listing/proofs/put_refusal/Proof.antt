@@ -1,46 +1,35 @@
+-- `listing::put_refusal` meets its contract: the mark, and three columns joined from the last one on.
+-- Assumes nothing.
 use mir.Facts.{toZ-ofZ}
 use borrow.Author.Needs.{needs, sfits-of}
 use Rattle.listing.specs.Columns.{row-last, row-more, ends, refusal-line}
 use native.Mathlib.Omega.{arith}
 use Rattle.listing.proofs.put_refusal.Statement.{statement}
 use Rattle.listing.proofs.put_refusal.Tie as tie
-use Rattle.listing.proofs.put_refusal.Reads as reads
-use Rattle.listing.proofs.put_refusal.Lts as lts
-use Rattle.listing.proofs.put_byte.Reads as put-byte-reads
-use Rattle.listing.proofs.put_count.Reads as put-count-reads
-use Rattle.listing.proofs.put_whole.Reads as put-whole-reads
 
--- src/lib.rt:194:9
 put-byte-requires : tie.Need-put-byte-requires
 put-byte-requires c κs = search needs
 
--- src/lib.rt:195:9
 put-byte-requires-2 : tie.Need-put-byte-requires-2
 put-byte-requires-2 c κs = search needs
 
--- src/lib.rt:196:40
 cast-put-count : tie.Need-cast-put-count
 cast-put-count c = search needs
 
--- src/lib.rt:196:9
 put-count-requires : tie.Need-put-count-requires
 put-count-requires c κs = search needs
 
--- src/lib.rt:197:9
 put-count-requires-2 : tie.Need-put-count-requires-2
 put-count-requires-2 c κs = search needs
 
--- src/lib.rt:198:5
 put-whole-requires : tie.Need-put-whole-requires
 put-whole-requires c κs = search needs
 
--- src/lib.rt:190:1
 same-length : tie.Need-same-length
 same-length c = search needs
 
--- src/lib.rt:190:1
 returns : tie.Need-returns
-returns c = 
+returns c =
     let last = rw (toZ-ofZ (sfits-of (c .before .before .before .struct-told .given .1 .1 .0 .1))) at (c .before .before .put-whole .ensures) in
     refusal-line (omega arith) (c .before .before .before .before .before .before .before .before .before .before .before .before .before .before .before .before .before .before .before .before .put-byte .ensures) (c .before .before .before .before .before .before .before .before .before .before .before .before .before .before .before .before .put-byte2 .ensures) (row-more (omega (arith, c .before .before .before .before .before .before .before .before .before .before .before .before .before .before .before .before .before .before .before .before .put-byte .ensures .place, c .before .before .before .before .before .before .before .before .before .before .before .before .before .before .before .before .before .before .before .before .put-byte .kept .0, c .before .before .before .before .before .before .before .before .before .before .before .before .before .before .before .before .put-byte2 .ensures .place, c .before .before .before .before .before .before .before .before .before .before .before .before .before .before .before .before .put-byte2 .kept .0)) (c .before .before .before .before .before .before .before .before .before .before .before .put-count .ensures) (row-more (omega (arith, c .before .before .before .before .before .before .before .before .before .before .before .before .before .before .before .before .before .before .before .before .put-byte .ensures .place, c .before .before .before .before .before .before .before .before .before .before .before .before .before .before .before .before .before .before .before .before .put-byte .kept .0, c .before .before .before .before .before .before .before .before .before .before .before .before .before .before .before .before .put-byte2 .ensures .place, c .before .before .before .before .before .before .before .before .before .before .before .before .before .before .before .before .put-byte2 .kept .0, ends (c .before .before .before .before .before .before .before .before .before .before .before .put-count .ensures), c .before .before .before .before .before .before .before .before .before .before .before .put-count .kept .0)) (c .before .before .before .before .before .before .before .put-count2 .ensures) (row-last last)))
 

@@ -1,64 +1,48 @@
+-- `listing::put_small` meets its contract: the comparisons tell how many digits there are.
+-- Assumes nothing.
 use Prim.Native.Nat.{_≤_}
 use native.Mathlib.Omega.{arith}
 use Rattle.listing.specs.Columns.{so-number}
 use borrow.Author.Needs.{needs}
 use Rattle.listing.proofs.put_small.Statement.{statement}
 use Rattle.listing.proofs.put_small.Tie as tie
-use Rattle.listing.proofs.put_small.Reads as reads
-use Rattle.listing.proofs.put_small.Lts as lts
-use Rattle.listing.proofs.put_digit.Reads as put-digit-reads
-use Rattle.listing.proofs.put_four.Reads as put-four-reads
-use Rattle.listing.proofs.put_three.Reads as put-three-reads
-use Rattle.listing.proofs.put_two.Reads as put-two-reads
 
--- src/lib.rt:110:9
 put-digit-requires : tie.Need-put-digit-requires
 put-digit-requires c κs = search needs
 
--- src/lib.rt:110:9
 same-length : tie.Need-same-length
 same-length c = search needs
 
--- src/lib.rt:110:9
 returns : tie.Need-returns
 returns c = so-number 0 _ (c .before .before .before .before .if1 .taken) (λ h. absurd (none h)) (omega arith) (c .before .before .put-digit .ensures)
   where
     none : 1 ≤ 0 → ⊥
     none h = omega arith
 
--- src/lib.rt:113:9
 put-two-requires : tie.Need-put-two-requires
 put-two-requires c κs = search needs
 
--- src/lib.rt:113:9
 same-length-2 : tie.Need-same-length-2
 same-length-2 c = search needs
 
--- src/lib.rt:113:9
 returns-2 : tie.Need-returns-2
 returns-2 c = so-number 1 _ (c .before .before .before .before .if2 .taken) (λ h. c .before .before .before .before .before .if1 .left) (omega arith) (c .before .before .put-two .ensures)
 
--- src/lib.rt:116:9
 put-three-requires : tie.Need-put-three-requires
 put-three-requires c κs = search needs
 
--- src/lib.rt:116:9
 same-length-3 : tie.Need-same-length-3
 same-length-3 c = search needs
 
--- src/lib.rt:116:9
 returns-3 : tie.Need-returns-3
 returns-3 c = so-number 2 _ (c .before .before .before .before .if3 .taken) (λ h. c .before .before .before .before .before .if2 .left) (omega arith) (c .before .before .put-three .ensures)
 
--- src/lib.rt:118:5
 put-four-requires : tie.Need-put-four-requires
 put-four-requires c κs = search needs
 
--- src/lib.rt:105:1
 same-length-4 : tie.Need-same-length-4
 same-length-4 c = search needs
 
--- src/lib.rt:105:1
 returns-4 : tie.Need-returns-4
 returns-4 c = so-number 3 _ (c .before .before .before .before .before .before .before .before .pre .1) (λ h. c .before .before .before .before .if3 .left) (omega arith) (c .before .before .put-four .ensures)
 

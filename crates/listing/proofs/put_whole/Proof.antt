@@ -1,3 +1,5 @@
+-- `listing::put_whole` meets its contract.
+-- Assumes nothing.
 use Rattle.listing.specs.Columns.{whole-column}
 use mathlib.Core.Path.{ap, _∙_}
 use lib.IntN.{natAbs}
@@ -6,36 +8,24 @@ use Rattle.whole.specs.Edge.{isNegative}
 use borrow.Author.Needs.{needs}
 use Rattle.listing.proofs.put_whole.Statement.{statement}
 use Rattle.listing.proofs.put_whole.Tie as tie
-use Rattle.listing.proofs.put_whole.Reads as reads
-use Rattle.listing.proofs.put_whole.Lts as lts
-use Rattle.listing.proofs.put_byte.Reads as put-byte-reads
-use Rattle.listing.proofs.put_signed.Reads as put-signed-reads
-use Rattle.whole.proofs.is_negative.Reads as is-negative-reads
-use Rattle.whole.proofs.magnitude.Reads as magnitude-reads
 
--- src/lib.rt:170:9
 is-negative-requires : tie.Need-is-negative-requires
 is-negative-requires c κs = search needs
 
--- src/lib.rt:171:9
 magnitude-requires : tie.Need-magnitude-requires
 magnitude-requires c κs = search needs
 
--- src/lib.rt:172:9
 put-signed-requires : tie.Need-put-signed-requires
 put-signed-requires c κs = search needs
 
--- src/lib.rt:173:5
 put-byte-requires : tie.Need-put-byte-requires
 put-byte-requires c κs = search needs
 
--- src/lib.rt:166:1
 same-length : tie.Need-same-length
 same-length c = search needs
 
--- src/lib.rt:166:1
 returns : tie.Need-returns
-returns c = 
+returns c =
     let r = toZ-ofZ (c .before .before .before .before .before .before .before .before .before .before .before .fits .x) in
     whole-column (c .before .before .before .before .before .before .before .before .before .is-negative .ensures ∙ ap isNegative r) (c .before .before .before .before .before .before .before .before .magnitude .ensures ∙ ap natAbs r) (c .before .before .before .before .before .before .before .before .before .before .before .pre) (c .before .before .before .before .before .before .put-signed .ensures) (c .before .before .put-byte .ensures)
 

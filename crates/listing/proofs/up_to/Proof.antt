@@ -1,11 +1,11 @@
+-- `listing::up_to` meets its contract. The loop's invariant is `Going`: what was passed is without the byte. The measure is what is left of the slice.
+-- Assumes nothing.
 use Rattle.listing.specs.Blocks.{Going, going-start, going-on, going-found, going-ended}
 use native.Mathlib.Omega.{arith}
 use Prim.Native.Nat.{_-_}
 use lib.ListN.{length}
 use Rattle.listing.proofs.up_to.Statement.{statement}
 use Rattle.listing.proofs.up_to.Tie as tie
-use Rattle.listing.proofs.up_to.Reads as reads
-use Rattle.listing.proofs.up_to.Lts as lts
 
 abbrev Inv-loop : tie.InvT-loop
 Inv-loop s from b i₀ i = Going b s from i
@@ -13,31 +13,24 @@ Inv-loop s from b i₀ i = Going b s from i
 abbrev μ-loop : tie.MeasureT-loop
 μ-loop s from b i₀ i = length s - i
 
--- src/lib.rt:32:5
 loop-holds : tie.Need-loop-holds Inv-loop μ-loop
 loop-holds c = going-start _ _ _ (c .pre)
 
--- src/lib.rt:33:12
 shared-slice-read-if1 : tie.Need-shared-slice-read-if1 Inv-loop μ-loop
 shared-slice-read-if1 c = omega arith
 
--- src/lib.rt:34:13
 returns : tie.Need-returns Inv-loop μ-loop
 returns c = (going-found (c .before .before .before .loop .inv) (c .before .before .loop-test .taken) (c .if1 .taken), omega (arith, c .before .before .before .loop .inv .place), c .before .before .before .loop .inv .inside)
 
--- src/lib.rt:36:9
 add-i : tie.Need-add-i Inv-loop μ-loop
 add-i c = omega arith
 
--- src/lib.rt:32:5
 loop-less : tie.Need-loop-less Inv-loop μ-loop
 loop-less c = omega arith
 
--- src/lib.rt:32:5
 loop-again : tie.Need-loop-again Inv-loop μ-loop
 loop-again c = going-on (c .before .before .before .loop .inv) (c .before .before .loop-test .taken) (c .if1 .left)
 
--- src/lib.rt:27:1
 returns-2 : tie.Need-returns-2 Inv-loop μ-loop
 returns-2 c = (going-ended (c .before .loop .inv) (c .loop-test .left), omega (arith, c .before .loop .inv .place), c .before .loop .inv .inside)
 

@@ -1,0 +1,43 @@
+-- `list::list_end` meets its contract: what was written lies in the buffer.
+-- Assumes nothing.
+use Rattle.listing.specs.Columns.{wrote-inside}
+use borrow.Author.Needs.{needs}
+use Rattle.list.proofs.list_end.Statement.{statement}
+use Rattle.list.proofs.list_end.Tie as tie
+
+list-last-requires : tie.Need-list-last-requires
+list-last-requires c κs = search needs
+
+enum-known-used : tie.Need-enum-known-used
+enum-known-used c = search needs
+
+write-front-requires : tie.Need-write-front-requires
+write-front-requires c κs = wrote-inside (rw (c .before .before .used .given .1) at (c .before .before .before .before .before .before .list-last .ensures))
+
+enum-told : tie.Need-enum-told
+enum-told c = search needs
+
+same-length : tie.Need-same-length
+same-length c = search needs
+
+returns : tie.Need-returns
+returns c = search needs
+
+same-length-2 : tie.Need-same-length-2
+same-length-2 c = search needs
+
+returns-2 : tie.Need-returns-2
+returns-2 c = search needs
+
+pub list-end-spec : {M : Type 1} → statement M
+list-end-spec =
+    tie.close
+    (tie.spec
+    list-last-requires
+    enum-known-used
+    write-front-requires
+    enum-told
+    same-length
+    returns
+    same-length-2
+    returns-2)
