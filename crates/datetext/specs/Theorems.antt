@@ -5,6 +5,7 @@
 -- Assumes nothing.
 use Prim.Native.Nat.{ℕ, _+_, _≤_, _<_, _^_}
 use mathlib.Core.Path.{_≡_, refl, sym, _∙_, ap, subst}
+use mathlib.Core.Bool.{Bool, true, false}
 use mathlib.Core.List.{List, _∷_, _++_}
 use mathlib.Core.Logic.{_⊎_, inl, inr}
 use native.Mathlib.Nat.{zero-add}
@@ -19,7 +20,8 @@ use Rattle.numbertext.specs.Numerals.{dash, Unsigned, Signed}
 use Rattle.datetext.specs.Grammar.{Month, OrdinalText, YmdText, Fault, ReadDate}
 use Rattle.datetext.specs.Reading.{sound, complete}
 use Rattle.datetext.specs.Writing.{Decimal, WholeDecimal, YmdDecimal, put, Puts, Writes, PutNumber, PutWhole, WriteYmd}
-use Rattle.datetext.specs.Decimals.{decimal-one, whole-one, ymd-one, decimal-short}
+use Rattle.datetext.specs.Decimals.{decimal-of, decimal-one, whole-one, ymd-one, decimal-short}
+use Rattle.datetext.specs.Puts.{wholeText, Signs}
 use Rattle.datetext.specs.declared.Text.{Text}
 use Rattle.datetext.specs.declared.Written.{Written}
 
@@ -74,7 +76,7 @@ puts-one (Puts.done h) (Puts.short k) = absurd (omega arith)
 puts-one (Puts.short h) (Puts.done k) = absurd (omega arith)
 puts-one (Puts.short h) (Puts.short k) = (refl, refl)
 
-writes-one : {IsText : List ℕ → Type 0} → ((t u : List ℕ) → IsText t → IsText u → t ≡ u)
+pub writes-one : {IsText : List ℕ → Type 0} → ((t u : List ℕ) → IsText t → IsText u → t ≡ u)
     → {b b₁ b₂ : List ℕ} {at : ℕ} {r₁ r₂ : Written} → Writes IsText b at b₁ r₁ → Writes IsText b at b₂ r₂ → (b₁ ≡ b₂) × (r₁ ≡ r₂)
 writes-one one {b} {b₁} {at = at} {r₁ = r₁} (Writes.writes {t} x h) (Writes.writes {t = u} y k) = puts-one (subst (λ (z : List ℕ). Puts z b at b₁ r₁) (one t u x y) h) k
 
@@ -84,6 +86,17 @@ module _ {b b₁ b₂ : List ℕ} {at : ℕ} {r₁ r₂ : Written} where
 
   pub put-whole-one : {x : ℤ} → PutWhole x b at b₁ r₁ → PutWhole x b at b₂ r₂ → (b₁ ≡ b₂) × (r₁ ≡ r₂)
   put-whole-one = writes-one (λ t u x y. whole-one x y)
+
+-- a sign and a magnitude have one text
+signs-one : {neg : Bool} {n : ℕ} {t u : List ℕ} → Signs neg n t → Signs neg n u → t ≡ u
+signs-one {neg} {n} (Signs.signs {k} v) (Signs.signs {k = j} w) = by neg
+  where
+    by : (g : Bool) → wholeText g k n ≡ wholeText g j n
+    by true = ap (λ (x : List ℕ). dash ∷ x) (decimal-one (decimal-of v) (decimal-of w))
+    by false = decimal-one (decimal-of v) (decimal-of w)
+
+pub put-at-one : {neg : Bool} {n : ℕ} {b b₁ b₂ : List ℕ} {at : ℕ} {r₁ r₂ : Written} → Writes (Signs neg n) b at b₁ r₁ → Writes (Signs neg n) b at b₂ r₂ → (b₁ ≡ b₂) × (r₁ ≡ r₂)
+put-at-one = writes-one (λ t u x y. signs-one x y)
 
 pub write-ymd-one : {y : ℤ} {m d : ℕ} {b b₁ b₂ : List ℕ} {r₁ r₂ : Written} → WriteYmd y m d b b₁ r₁ → WriteYmd y m d b b₂ r₂ → (b₁ ≡ b₂) × (r₁ ≡ r₂)
 write-ymd-one = writes-one (λ t u x y. ymd-one x y)

@@ -1,0 +1,187 @@
+-- Two results that a promise of the listing allows for one input are equal; and an input has one listing.
+-- Assumes nothing.
+use Prim.Native.Nat.{ℕ, _+_, _≤_, _<_}
+use mathlib.Core.Path.{_≡_, refl, sym, _∙_, ap, ap₂, subst}
+use mathlib.Core.List.{List, [], _∷_, _++_}
+use native.Mathlib.Omega.{arith}
+use lib.ListN.{length, take, drop, length-append}
+use lib.IntN.{ℤ, pos}
+use Rattle.calendar.specs.declared.Calendar.{Calendar}
+use Rattle.calendar.specs.declared.Refusal.{Refusal}
+use Rattle.calendar.specs.declared.Dated.{Dated}
+use Rattle.calendar.specs.declared.Dated.the-variants as Dated′
+use Rattle.calendar.specs.declared.Reformed.{Reformed}
+use Rattle.calendar.specs.declared.Reformed.the-variants as Reformed′
+use Rattle.calendar.specs.Rows.{One, if-one}
+use Rattle.ncal.specs.Table.{bytes}
+use Rattle.ncal.specs.Promise.{NamesCalendar}
+use Rattle.ncal.specs.Theorems.{named-one}
+use Rattle.datetext.specs.Writing.{put, Writes}
+use Rattle.datetext.specs.Decimals.{whole-one}
+use Rattle.datetext.specs.Theorems.{writes-one}
+use Rattle.datetext.specs.declared.Written.{Written}
+use Rattle.dateparse.specs.Promise.{ParseDate}
+use Rattle.dateparse.specs.Theorems.{parse-date-one}
+use Rattle.listing.specs.Lines.{newline, tab, header, Without, Lines, Entry, tabbed, bare, ByEntry, no-name, by-text, LineAnswer, Columns, LineText, of-date, of-refusal, Listed, listed, AllListed, Listing, listing}
+use Rattle.listing.specs.Columns.{Ended, ended}
+use Rattle.listing.specs.Blocks.{Fills, HeldAnswer, HeldLine, LastLine, Stand, stand, Turn, Lists}
+
+-- ---- a byte parts what comes before it from what comes after
+
+never : _≡_ {A = ℕ} 0 1 → ⊥
+never z = omega arith
+
+pub parted-one : {b : ℕ} {q p u v : List ℕ} → Without b q → Without b p → q ++ (b ∷ u) ≡ p ++ (b ∷ v) → (q ≡ p) × (u ≡ v)
+parted-one Without.none Without.none e = (refl, cc)
+parted-one Without.none (Without.more n w) e = absurd (n cc)
+parted-one (Without.more n w) Without.none e = absurd (n cc)
+parted-one {b} (Without.more {x} {s} m w) (Without.more {x = y} {s = t} n z) e = by (parted-one w z cc)
+  where
+    head : x ≡ y
+    head = cc
+
+    by : {u v : List ℕ} → (s ≡ t) × (u ≡ v) → (x ∷ s ≡ y ∷ t) × (u ≡ v)
+    by (f, g) = (ap₂ (λ (k : ℕ) (l : List ℕ). k ∷ l) head f, g)
+
+pub never-parted : {b : ℕ} {p : List ℕ} (q u : List ℕ) → Without b p → q ++ (b ∷ u) ≡ p → ⊥
+never-parted [] u Without.none e = let z : _≡_ {A = ℕ} 0 1 = cc in never z
+never-parted [] u (Without.more n w) e = n cc
+never-parted (x ∷ q) u Without.none e = let z : _≡_ {A = ℕ} 0 1 = cc in never z
+never-parted (x ∷ q) u (Without.more n w) e = never-parted q u w cc
+
+-- ---- an input has one list of lines
+
+lines-same : {s z : List ℕ} {ls ms : List (List ℕ)} → s ≡ z → Lines s ls → Lines z ms → ls ≡ ms
+lines-same e Lines.none Lines.none = refl
+lines-same e Lines.none (Lines.last w h) = absurd (omega (arith, ap length e))
+lines-same e Lines.none (Lines.line {l} {s} w r) = absurd (omega (arith, ap length e, length-append l (newline ∷ s)))
+lines-same e (Lines.last w h) Lines.none = absurd (omega (arith, ap length e))
+lines-same e (Lines.last w h) (Lines.last v k) = ap (λ (l : List ℕ). l ∷ []) e
+lines-same e (Lines.last w h) (Lines.line {l} {s} v r) = absurd (never-parted l s w (sym e))
+lines-same e (Lines.line {l} {s} w r) Lines.none = absurd (omega (arith, ap length e, length-append l (newline ∷ s)))
+lines-same e (Lines.line {l} {s} w r) (Lines.last v k) = absurd (never-parted l s v e)
+lines-same e (Lines.line w r) (Lines.line v q) =
+    let p = parted-one w v e in ap₂ (λ (l : List ℕ) (ls : List (List ℕ)). l ∷ ls) (p .0) (lines-same (p .1) r q)
+
+pub lines-one : {s : List ℕ} {ls ms : List (List ℕ)} → Lines s ls → Lines s ms → ls ≡ ms
+lines-one = lines-same refl
+
+-- ---- a line has one name and one text, and one answer
+
+entry-same : {l m name text name′ text′ : List ℕ} → l ≡ m → Entry l name text → Entry m name′ text′ → (name ≡ name′) × (text ≡ text′)
+entry-same e (tabbed w) (tabbed v) = parted-one w v e
+entry-same e (tabbed {name} {text} w) (bare v) = absurd (never-parted name text v e)
+entry-same e (bare w) (tabbed {name} {text} v) = absurd (never-parted name text w (sym e))
+entry-same e (bare w) (bare v) = (e, refl)
+
+named-same : {name name′ : List ℕ} {a b : Reformed} → name ≡ name′ → NamesCalendar name a → NamesCalendar name′ b → a ≡ b
+named-same {name} {a = a} {b} e p q = named-one name a b p (subst (λ (s : List ℕ). NamesCalendar s b) (sym e) q)
+
+by-entry-one : (l : List ℕ) → One (ByEntry l)
+by-entry-one l a b (no-name p q) (no-name p′ q′) = let e = named-same (entry-same refl p p′ .0) q q′ in cc
+by-entry-one l a b (no-name p q) (by-text p′ q′ r′) = let e = named-same (entry-same refl p p′ .0) q q′ in let z : _≡_ {A = ℕ} 0 1 = cc in absurd (never z)
+by-entry-one l a b (by-text p q r) (no-name p′ q′) = let e = named-same (entry-same refl p p′ .0) q q′ in let z : _≡_ {A = ℕ} 0 1 = cc in absurd (never z)
+by-entry-one l a b (by-text {text} {c} p q r) (by-text {text = text′} {c = c′} p′ q′ r′) =
+    let e = named-same (entry-same refl p p′ .0) q q′ in
+    let f : c ≡ c′ = cc in
+    parse-date-one c text a b r (subst (λ (x : Calendar). ParseDate x text b) (sym f) (subst (λ (t : List ℕ). ParseDate c′ t b) (sym (entry-same refl p p′ .1)) r′))
+
+pub line-answer-one : (l : List ℕ) → One (LineAnswer l)
+line-answer-one l = if-one (λ n. by-entry-one l)
+
+-- ---- an answer has one text
+
+columns-one : {xs : List ℤ} {t u : List ℕ} → Columns xs t → Columns xs u → t ≡ u
+columns-one (Columns.one w) (Columns.one v) = whole-one w v
+columns-one (Columns.more w c) (Columns.more v d) = ap₂ (λ (t u : List ℕ). t ++ (tab ∷ u)) (whole-one w v) (columns-one c d)
+
+line-text-one : {a : Dated} {t u : List ℕ} → LineText a t → LineText a u → t ≡ u
+line-text-one (of-date c) (of-date d) = columns-one c d
+line-text-one (of-refusal c) (of-refusal d) = ap (λ (t : List ℕ). bytes "!\t" ++ t) (columns-one c d)
+
+ended-one : {a c : Dated} {t u : List ℕ} → a ≡ c → Ended a t → Ended c u → t ≡ u
+ended-one {a} e (ended x) (ended {t = u} y) = ap (λ (t : List ℕ). t ++ (newline ∷ [])) (line-text-one x (subst (λ (d : Dated). LineText d u) (sym e) y))
+
+listed-is : {l t : List ℕ} → Listed l t → (a : Dated) × LineAnswer l a × Ended a t
+listed-is (listed {a} q x) = (a, q, ended x)
+
+pub listed-one : {l t u : List ℕ} → Listed l t → Listed l u → t ≡ u
+listed-one {l} p q =
+    let (a, x, y) = listed-is p in
+    let (c, v, w) = listed-is q in
+    ended-one (line-answer-one l a c x v) y w
+
+pub all-listed-one : {ls : List (List ℕ)} {t u : List ℕ} → AllListed ls t → AllListed ls u → t ≡ u
+all-listed-one AllListed.none AllListed.none = refl
+all-listed-one (AllListed.next p r) (AllListed.next q s) = ap₂ (λ (t u : List ℕ). t ++ u) (listed-one p q) (all-listed-one r s)
+
+-- an input has one listing
+pub listing-one : {input t u : List ℕ} → Listing input t → Listing input u → t ≡ u
+listing-one (listing {t} p q) (listing {t = u} p′ q′) =
+    ap (λ (x : List ℕ). header ++ x) (all-listed-one q (subst (λ (ls : List (List ℕ)). AllListed ls u) (sym (lines-one p p′)) q′))
+
+-- ---- what is held of a line
+
+held-answer-one : {l : List ℕ} {n : ℕ} {a c : Dated} → HeldAnswer l n a → HeldAnswer l n c → a ≡ c
+held-answer-one {l} {n} {a} {c} (HeldAnswer.short h p) (HeldAnswer.short k q) = line-answer-one (take n l) a c p q
+held-answer-one (HeldAnswer.short h p) (HeldAnswer.long k) = absurd (omega arith)
+held-answer-one (HeldAnswer.long h) (HeldAnswer.short k q) = absurd (omega arith)
+held-answer-one (HeldAnswer.long h) (HeldAnswer.long k) = refl
+
+held-line-one : {l m : List ℕ} {n k : ℕ} {t u : List ℕ} → l ≡ m → n ≡ k → HeldLine l n t → HeldLine m k u → t ≡ u
+held-line-one {l} {m} {n} {k} e f (HeldLine.held-line p x) (HeldLine.held-line {a = c} q y) =
+    ended-one (held-answer-one p (subst (λ (i : List ℕ). HeldAnswer i n c) (sym e) (subst (λ (i : ℕ). HeldAnswer m i c) (sym f) q))) x y
+
+last-line-one : {l : List ℕ} {n : ℕ} {t u : List ℕ} → LastLine l n t → LastLine l n u → t ≡ u
+last-line-one LastLine.no-more LastLine.no-more = refl
+last-line-one LastLine.no-more (LastLine.one-more h q) = absurd (omega arith)
+last-line-one (LastLine.one-more h p) LastLine.no-more = absurd (omega arith)
+last-line-one (LastLine.one-more h p) (LastLine.one-more k q) = held-line-one refl refl p q
+
+-- ---- a block
+
+fills-one : {l : List ℕ} {n : ℕ} {q p : List ℕ} {l₁ l₂ : List ℕ} {n₁ n₂ : ℕ} → q ≡ p → Fills l n q l₁ n₁ → Fills l n p l₂ n₂ → (l₁ ≡ l₂) × (n₁ ≡ n₂)
+fills-one {l} {n} e (Fills.fits h) (Fills.fits k) = (ap (put l n) e, ap (λ (x : List ℕ). n + length x) e)
+fills-one e (Fills.fits h) (Fills.over k) = absurd (omega (arith, ap length e))
+fills-one e (Fills.over h) (Fills.fits k) = absurd (omega (arith, ap length e))
+fills-one e (Fills.over h) (Fills.over k) = (refl, refl)
+
+stands : {at at′ : ℕ} {l l′ : List ℕ} {n n′ : ℕ} {o o′ : List ℕ} {u u′ : ℕ} → at ≡ at′ → l ≡ l′ → n ≡ n′ → o ≡ o′ → u ≡ u′ → stand at l n o u ≡ stand at′ l′ n′ o′ u′
+stands {at} {at′} {l} {l′} {n} {n′} {o} {o′} {u} {u′} a b c d e =
+    ap (λ (x : ℕ). stand x l n o u) a ∙ ap (λ (x : List ℕ). stand at′ x n o u) b ∙ ap (λ (x : ℕ). stand at′ l′ x o u) c ∙ ap (λ (x : List ℕ). stand at′ l′ n′ x u) d ∙ ap (λ (x : ℕ). stand at′ l′ n′ o′ x) e
+
+turn-one : {b : List ℕ} {s t v : Stand} → Turn b s t → Turn b s v → t ≡ v
+turn-one {s = s} (Turn.rest e w f) (Turn.rest e′ w′ f′) =
+    let q = sym e ∙ e′ in
+    let p = fills-one q f f′ in
+    stands (ap (λ (x : List ℕ). s .at + length x) q) (p .0) (p .1) refl refl
+turn-one (Turn.rest e w f) (Turn.line {q} u e′ w′ f′ g′ m′) = absurd (never-parted q u w (sym e′ ∙ e))
+turn-one (Turn.line {q} u e w f g m) (Turn.rest e′ w′ f′) = absurd (never-parted q u w′ (sym e ∙ e′))
+turn-one {s = s} (Turn.line u e w f g m) (Turn.line u′ e′ w′ f′ g′ m′) =
+    let q = parted-one w w′ (sym e ∙ e′) .0 in
+    let p = fills-one q f f′ in
+    let t = held-line-one (p .0) (p .1) g g′ in
+    stands (ap (λ (x : List ℕ). s .at + length x + 1) q) (p .0) refl (ap (put (s .out) (s .used)) t) (ap (λ (x : List ℕ). s .used + length x) t)
+
+pub lists-one : {b : List ℕ} {s e f : Stand} → Lists b s e → Lists b s f → e ≡ f
+lists-one (Lists.block-ends h) (Lists.block-ends k) = refl
+lists-one (Lists.block-ends h) (Lists.out-of-room k) = refl
+lists-one (Lists.block-ends h) (Lists.goes-on i j w l) = absurd (omega arith)
+lists-one (Lists.out-of-room h) (Lists.block-ends k) = refl
+lists-one (Lists.out-of-room h) (Lists.out-of-room k) = refl
+lists-one (Lists.out-of-room h) (Lists.goes-on i j w l) = absurd (omega arith)
+lists-one (Lists.goes-on i j w l) (Lists.block-ends k) = absurd (omega arith)
+lists-one (Lists.goes-on i j w l) (Lists.out-of-room k) = absurd (omega arith)
+lists-one {b} {f = f} (Lists.goes-on i j w l) (Lists.goes-on i′ j′ w′ l′) = lists-one l (subst (λ (t : Stand). Lists b t f) (sym (turn-one w w′)) l′)
+
+-- ---- what is written
+
+module _ {b b₁ b₂ : List ℕ} {at : ℕ} {r₁ r₂ : Written} where
+  pub list-line-one : {l : List ℕ} → Writes (Listed l) b at b₁ r₁ → Writes (Listed l) b at b₂ r₂ → (b₁ ≡ b₂) × (r₁ ≡ r₂)
+  list-line-one = writes-one (λ t u x y. listed-one x y)
+
+  pub put-header-one : Writes (λ (t : List ℕ). t ≡ header) b at b₁ r₁ → Writes (λ (t : List ℕ). t ≡ header) b at b₂ r₂ → (b₁ ≡ b₂) × (r₁ ≡ r₂)
+  put-header-one = writes-one (λ t u x y. x ∙ sym y)
+
+  pub list-last-one : {l : List ℕ} {n : ℕ} → Writes (LastLine l n) b at b₁ r₁ → Writes (LastLine l n) b at b₂ r₂ → (b₁ ≡ b₂) × (r₁ ≡ r₂)
+  list-last-one = writes-one (λ t u x y. last-line-one x y)
