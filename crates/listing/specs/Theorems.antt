@@ -213,8 +213,8 @@ joined [] = []
 joined (c ∷ cs) = c ++ joined cs
 
 -- what comes before the same end is the same
-same-front : {p q s : List ℕ} → p ++ s ≡ q ++ s → p ≡ q
-same-front {p} {q} {s} e =
+same-front : (p q s : List ℕ) → p ++ s ≡ q ++ s → p ≡ q
+same-front p q s e =
     let n : length p ≡ length q = omega (arith, ap length e, length-append p s, length-append q s) in
     sym (take-at p s (length p) refl) ∙ ap₂ (λ (i : ℕ) (x : List ℕ). take i x) n e ∙ take-at q s (length q) refl
 
@@ -225,7 +225,7 @@ session-means {p = p} k h (Session.ends w) =
 session-means {p = p} k h (Session.reads {b} {c} {o = o} {e} {cs} {t} w d v) =
     let m = block-means k (omega arith) h w in
     let (ls, r, ms, x, y, z) = session-means (m .buffer) (m .holds) v in
-    let f : m .taken ≡ c = same-front (sym (m .bytes-are) ∙ d) in
+    let f : m .taken ≡ c = same-front (m .taken) c (drop (e .at) b) (sym (m .bytes-are) ∙ d) in
     (m .lines ++ ls, r, ms, subst (λ (i : List ℕ). Cuts p (i ++ joined cs) (m .lines ++ ls) r) f (cuts-join (m .cuts) x), y, subst (λ (i : List (List ℕ)). AllListed i (take (e .used) (e .out) ++ t)) (sym (append-assoc (m .lines) ls ms)) (subst (λ (i : List ℕ). AllListed (m .lines ++ (ls ++ ms)) (i ++ t)) (sym (front m)) (all-join (m .listed) z)))
   where
     front : {at : ℕ} {l : List ℕ} {n : ℕ} {p : List ℕ} (m : Means b (stand at l n o 0) e p) → take (e .used) (e .out) ≡ m .text

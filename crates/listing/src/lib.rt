@@ -292,7 +292,7 @@ pub struct Progress {
     pub used: usize,
 }
 
-// Adds bytes to the line that is held. A line that is too long counts 513, and what is in the buffer no longer matters.
+// Adds bytes to the line that is held. For a line that is too long more than 512 are told, and what is in the buffer no longer matters.
 fn fill(line: &mut [u8; 512], held: usize, part: &[u8]) -> usize
     ensures { λ r. ⌜ Fills (now (line .entry)) held (now (part .entry)) (now (line .exit)) r ⌝ }
 {
