@@ -12,14 +12,14 @@ use lib.IntN.{pos}
 use Rattle.calendar.specs.declared.Dated.{Dated}
 use Rattle.calendar.specs.declared.Dated.the-variants as Dated′
 use Rattle.calendar.specs.Promise.{refusal}
-use Rattle.datetext.specs.Writing.{put, Writes}
-use Rattle.datetext.specs.Puts.{put-none, length-put, So, wrote, left-alone}
+use Rattle.datetext.specs.Writing.{put, Puts, Writes}
+use Rattle.datetext.specs.Puts.{put-none, length-put, wrote, left-alone}
 use Rattle.datetext.specs.declared.Written.{Written}
 use Rattle.numbertext.specs.Numerals.{refusal as textRefusal}
-use Rattle.ncal.specs.Table.{bytes}
 use Rattle.calendar.specs.declared.Refusal.{Refusal}
-use Rattle.listing.specs.Lines.{header, tab, newline, Without, Entry, tabbed, bare, LineAnswer}
-use Rattle.listing.specs.Columns.{Text, text-as, Ended, LineOf}
+use Rattle.listing.specs.Lines.{header, Without, Entry, tabbed, bare, LineAnswer, Listed, listed}
+use Rattle.linetext.specs.Line.{newline, tab, LineOut, Copies, copied, no-room}
+use Rattle.linetext.specs.declared.Copied.{Copied}
 
 -- ---- up to a byte
 
@@ -105,8 +105,9 @@ pub data HeldAnswer (l : List ℕ) (n : ℕ) : Dated → Type 0 where
   short : {a : Dated} → n ≤ 512 → LineAnswer (take n l) a → HeldAnswer l n a
   long : 512 < n → HeldAnswer l n (Dated′.Refused (refusal 20 (pos 0)))
 
+-- and what is written for it
 pub data HeldLine (l : List ℕ) (n : ℕ) : List ℕ → Type 0 where
-  held-line : {a : Dated} {t : List ℕ} → HeldAnswer l n a → Ended a t → HeldLine l n t
+  held-line : {a : Dated} {t : List ℕ} → HeldAnswer l n a → LineOut a t → HeldLine l n t
 
 -- the last line, which needs no newline; none where nothing is held
 pub data LastLine (l : List ℕ) : ℕ → List ℕ → Type 0 where
@@ -137,12 +138,28 @@ pub data Lists (b : List ℕ) : Stand → Stand → Type 0 where
   out-of-room : {s : Stand} → length (s .out) < s .used + 132 → Lists b s s
   goes-on : {s t e : Stand} → s .at < length b → s .used + 132 ≤ length (s .out) → Turn b s t → Lists b t e → Lists b s e
 
-pub fills-room : {l : List ℕ} {n : ℕ} {q l′ : List ℕ} {i : ℕ} → n + length q ≤ 512 → So l n q l′ i → Fills l n q l′ i
-fills-room {l} {n} {q} {l′} {i} h s = subst (λ (x : List ℕ). Fills l n q x i) (sym (s .is)) (subst (Fills l n q (put l n q)) (sym (s .place)) (Fills.fits h))
+-- ---- a text as IsText says was put into b at `at`, and i is the place after it
 
--- a line that was held is written
-line-held : {l : List ℕ} {n : ℕ} {a : Dated} {o : List ℕ} {u : ℕ} {o′ : List ℕ} {u′ : ℕ} → HeldAnswer l n a → LineOf a o u o′ u′ → Text (HeldLine l n) 132 o u o′ u′
-line-held {l} {n} h t = text-as t (λ v e. HeldLine.held-line h e) (omega arith)
+pub data Wrote (IsText : List ℕ → Type 0) (b : List ℕ) (at : ℕ) : List ℕ → ℕ → Type 0 where
+  wrote-it : {t : List ℕ} → IsText t → at + length t ≤ length b → Wrote IsText b at (put b at t) (at + length t)
+
+module _ {l : List ℕ} {n : ℕ} {a : Dated} {b : List ℕ} {at : ℕ} (h : HeldAnswer l n a) where
+  pub held-wrote : {b′ : List ℕ} {i : ℕ} → Writes (LineOut a) b at b′ (Written.Done i) → Wrote (HeldLine l n) b at b′ i
+  held-wrote (Writes.writes x (Puts.done k)) = wrote-it (HeldLine.held-line h x) k
+
+  pub held-room : {b′ : List ℕ} {f : Refusal} → at + 132 ≤ length b → Writes (LineOut a) b at b′ (Written.Refused f) → ⊥
+  held-room k (Writes.writes x (Puts.short s)) = omega (arith, x .short)
+
+held-short : {l : List ℕ} {n : ℕ} {t : List ℕ} → HeldLine l n t → length t ≤ 132
+held-short (HeldLine.held-line h x) = x .short
+
+-- ---- a line in the line buffer
+
+pub fills-to : {l : List ℕ} {n : ℕ} {q l′ : List ℕ} {i : ℕ} → length l ≡ 512 → Copies q l n l′ (Copied.To i) → Fills l n q l′ i
+fills-to e (copied h) = Fills.fits (omega arith)
+
+pub fills-over : {l : List ℕ} {n : ℕ} {q l′ : List ℕ} → length l ≡ 512 → Copies q l n l′ Copied.NoRoom → Fills l n q l′ 513
+fills-over e (no-room h) = Fills.over (omega arith)
 
 -- ---- what one turn does
 
@@ -153,14 +170,11 @@ module _ {b : List ℕ} {at end : ℕ} {l : List ℕ} {n : ℕ} {o : List ℕ} {
       subst (λ (k : ℕ). Turn b (stand at l n o u) (stand k l′ n′ o u)) (sym p)
       (Turn.rest e w (subst (λ (x : List ℕ). Fills l n x l′ n′) (ap (take (end - at)) e ∙ take-all (end - at) q (omega arith)) f))
 
-  pub turn-line : {a : Dated} {o′ : List ℕ} {u′ : ℕ} → UpTo newline b at end → end < length b → at ≤ length b → HeldAnswer l′ n′ a → LineOf a o u o′ u′ → Turn b (stand at l n o u) (stand (end + 1) l′ 0 o′ u′)
-  turn-line (UpTo.ends {q} e w p) h i g t = absurd (omega (arith, ap length e, length-drop at b))
-  turn-line {o′ = o′} {u′} (UpTo.stands {q} v e w p) h i g t =
-      let x = line-held g t in
-      subst (λ (k : ℕ). Turn b (stand at l n o u) (stand (k + 1) l′ 0 o′ u′)) (sym p)
-      (subst (λ (y : List ℕ). Turn b (stand at l n o u) (stand (at + length q + 1) l′ 0 y u′)) (sym (x .so .is))
-      (subst (λ (k : ℕ). Turn b (stand at l n o u) (stand (at + length q + 1) l′ 0 (put o u (x .text)) k)) (sym (x .so .place))
-      (Turn.line v e w (subst (λ (y : List ℕ). Fills l n y l′ n′) (ap (take (end - at)) e ∙ take-at q (newline ∷ v) (end - at) (omega arith)) f) (x .is) (x .short))))
+  pub turn-line : {o′ : List ℕ} {u′ : ℕ} → UpTo newline b at end → end < length b → at ≤ length b → Wrote (HeldLine l′ n′) o u o′ u′ → Turn b (stand at l n o u) (stand (end + 1) l′ 0 o′ u′)
+  turn-line (UpTo.ends {q} e w p) h i g = absurd (omega (arith, ap length e, length-drop at b))
+  turn-line (UpTo.stands {q} v e w p) h i (wrote-it {t} x k) =
+      subst (λ (j : ℕ). Turn b (stand at l n o u) (stand (j + 1) l′ 0 (put o u t) (u + length t))) (sym p)
+      (Turn.line v e w (subst (λ (y : List ℕ). Fills l n y l′ n′) (ap (take (end - at)) e ∙ take-at q (newline ∷ v) (end - at) (omega arith)) f) x (held-short x))
 
 pub turn-grows : {b : List ℕ} {s t : Stand} → Turn b s t → s .at < length b → s .at < t .at
 turn-grows {b} {s} (Turn.rest {q} e w f) h = omega (arith, ap length e, length-drop (s .at) b)
@@ -204,7 +218,7 @@ none-is : {l : List ℕ} {n : ℕ} → n ≤ 0 → LastLine l n []
 none-is {l} {n} h = let e : 0 ≡ n = omega arith in subst (λ (k : ℕ). LastLine l k []) e LastLine.no-more
 
 module _ {l : List ℕ} {n : ℕ} {b : List ℕ} {at : ℕ} where
-  pub last-held : {a : Dated} {b′ : List ℕ} {r : Written} → 0 < n → HeldAnswer l n a → Writes (Ended a) b at b′ r → Writes (LastLine l n) b at b′ r
+  pub last-held : {a : Dated} {b′ : List ℕ} {r : Written} → 0 < n → HeldAnswer l n a → Writes (LineOut a) b at b′ r → Writes (LastLine l n) b at b′ r
   last-held h g (Writes.writes t p) = Writes.writes (LastLine.one-more h (HeldLine.held-line g t)) p
 
   pub last-none : n ≤ 0 → at + 0 ≤ length b → Writes (LastLine l n) b at b (Written.Done at)
@@ -213,11 +227,17 @@ module _ {l : List ℕ} {n : ℕ} {b : List ℕ} {at : ℕ} where
   pub last-left : {f : Refusal} → n ≤ 0 → length b < at + 0 → f ≡ textRefusal 18 0 (pos 0) → Writes (LastLine l n) b at b (Written.Refused f)
   last-left h k e = left-alone [] (none-is h) refl k e
 
--- ---- the header
+-- ---- what is written for a line, and the header
 
-pub header-wrote : {b : List ℕ} {at : ℕ} {t b′ : List ℕ} {i : ℕ} → t ≡ header → at + length t ≤ length b → So b at t b′ i → Writes (λ (u : List ℕ). u ≡ header) b at b′ (Written.Done i)
-header-wrote e h s = wrote e h s
+pub listed-as : {l : List ℕ} {a : Dated} {b : List ℕ} {at : ℕ} {b′ : List ℕ} {r : Written} → LineAnswer l a → Writes (LineOut a) b at b′ r → Writes (Listed l) b at b′ r
+listed-as q (Writes.writes t p) = Writes.writes (listed q (t .is)) p
 
-pub header-left : {b : List ℕ} {at : ℕ} {f : Refusal} → length b < at + 35 → f ≡ textRefusal 18 0 (pos 35) → Writes (λ (u : List ℕ). u ≡ header) b at b (Written.Refused f)
-unfolding header bytes
-header-left h e = left-alone header refl refl h e
+pub header-wrote : {t b : List ℕ} {at : ℕ} {b′ : List ℕ} {i : ℕ} → t ≡ header → Copies t b at b′ (Copied.To i) → Writes (λ (u : List ℕ). u ≡ header) b at b′ (Written.Done i)
+header-wrote e (copied h) = Writes.writes e (Puts.done h)
+
+pub header-left : {t b : List ℕ} {at : ℕ} {b′ : List ℕ} {f : Refusal} → t ≡ header → length t ≡ 35 → Copies t b at b′ Copied.NoRoom → f ≡ textRefusal 18 0 (pos 35) → Writes (λ (u : List ℕ). u ≡ header) b at b′ (Written.Refused f)
+header-left {t} e k (no-room h) g = left-alone t e (sym k) h g
+
+-- what was written lies in the buffer
+pub wrote-inside : {P : List ℕ → Type 0} {b : List ℕ} {at : ℕ} {b′ : List ℕ} {i : ℕ} → Writes P b at b′ (Written.Done i) → i ≤ length b′
+wrote-inside {b = b} {at} (Writes.writes {t} x (Puts.done h)) = omega (arith, length-put b at t h)

@@ -5,10 +5,8 @@ use Prim.Native.Nat.{ℕ, _<_}
 use mathlib.Core.Path.{_≡_}
 use mathlib.Core.List.{List, [], _∷_, _++_}
 use lib.ListN.{length}
-use lib.IntN.{ℤ, pos}
-use Rattle.days.specs.DayByDay.{weekday}
+use lib.IntN.{pos}
 use Rattle.calendar.specs.declared.Calendar.{Calendar}
-use Rattle.calendar.specs.declared.Date.{Date}
 use Rattle.calendar.specs.declared.Refusal.{Refusal}
 use Rattle.calendar.specs.declared.Dated.{Dated}
 use Rattle.calendar.specs.declared.Dated.the-variants as Dated′
@@ -17,14 +15,8 @@ use Rattle.calendar.specs.Rows.{If}
 use Rattle.calendar.specs.Promise.{refusal}
 use Rattle.ncal.specs.Table.{bytes}
 use Rattle.ncal.specs.Promise.{NamesCalendar}
-use Rattle.datetext.specs.Writing.{WholeDecimal}
 use Rattle.dateparse.specs.Promise.{ParseDate}
-
-abbrev pub newline : ℕ
-newline = 10
-
-abbrev pub tab : ℕ
-tab = 9
+use Rattle.linetext.specs.Line.{newline, tab, Ended}
 
 -- no byte of s is b
 pub data Without (b : ℕ) : List ℕ → Type 0 where
@@ -55,24 +47,9 @@ LineAnswer l = If (512 < length l) (Dated′.Refused (refusal 20 (pos 0))) (ByEn
 
 -- ---- what is written
 
--- numbers parted by tabs
-pub data Columns : List ℤ → List ℕ → Type 0 where
-  one : {x : ℤ} {t : List ℕ} → WholeDecimal t x → Columns (x ∷ []) t
-  more : {x : ℤ} {xs : List ℤ} {t u : List ℕ} → WholeDecimal t x → Columns xs u → Columns (x ∷ xs) (t ++ (tab ∷ u))
-
-abbrev pub dateColumns : Date → List ℤ
-dateColumns d = d .jdn ∷ d .year ∷ pos (d .ordinal) ∷ pos (d .month) ∷ pos (d .day) ∷ pos (weekday (d .jdn)) ∷ []
-
-abbrev pub refusalColumns : Refusal → List ℤ
-refusalColumns f = pos (f .number) ∷ pos (f .place) ∷ f .value ∷ []
-
-pub data LineText : Dated → List ℕ → Type 0 where
-  of-date : {d : Date} {t : List ℕ} → Columns (dateColumns d) t → LineText (Dated′.Date d) t
-  of-refusal : {f : Refusal} {t : List ℕ} → Columns (refusalColumns f) t → LineText (Dated′.Refused f) (bytes "!\t" ++ t)
-
 -- what is written for the line l, with its newline
 pub data Listed (l : List ℕ) : List ℕ → Type 0 where
-  listed : {a : Dated} {t : List ℕ} → LineAnswer l a → LineText a t → Listed l (t ++ (newline ∷ []))
+  listed : {a : Dated} {t : List ℕ} → LineAnswer l a → Ended a t → Listed l t
 
 -- and for lines one under another
 pub data AllListed : List (List ℕ) → List ℕ → Type 0 where

@@ -13,17 +13,16 @@ use Rattle.calendar.specs.declared.Dated.the-variants as Dated′
 use Rattle.calendar.specs.declared.Reformed.{Reformed}
 use Rattle.calendar.specs.declared.Reformed.the-variants as Reformed′
 use Rattle.calendar.specs.Rows.{One, if-one}
-use Rattle.ncal.specs.Table.{bytes}
 use Rattle.ncal.specs.Promise.{NamesCalendar}
 use Rattle.ncal.specs.Theorems.{named-one}
 use Rattle.datetext.specs.Writing.{put, Writes}
-use Rattle.datetext.specs.Decimals.{whole-one}
 use Rattle.datetext.specs.Theorems.{writes-one}
 use Rattle.datetext.specs.declared.Written.{Written}
 use Rattle.dateparse.specs.Promise.{ParseDate}
 use Rattle.dateparse.specs.Theorems.{parse-date-one}
-use Rattle.listing.specs.Lines.{newline, tab, header, Without, Lines, Entry, tabbed, bare, ByEntry, no-name, by-text, LineAnswer, Columns, LineText, of-date, of-refusal, Listed, listed, AllListed, Listing, listing}
-use Rattle.listing.specs.Columns.{Ended, ended}
+use Rattle.listing.specs.Lines.{header, Without, Lines, Entry, tabbed, bare, ByEntry, no-name, by-text, LineAnswer, Listed, listed, AllListed, Listing, listing}
+use Rattle.linetext.specs.Line.{newline, tab, Ended}
+use Rattle.linetext.specs.One.{ended-one}
 use Rattle.listing.specs.Blocks.{Fills, HeldAnswer, HeldLine, LastLine, Stand, stand, Turn, Lists}
 
 -- ---- a byte parts what comes before it from what comes after
@@ -89,27 +88,19 @@ by-entry-one l a b (by-text {text} {c} p q r) (by-text {text = text′} {c = c�
 pub line-answer-one : (l : List ℕ) → One (LineAnswer l)
 line-answer-one l = if-one (λ n. by-entry-one l)
 
--- ---- an answer has one text
+-- ---- and one text
 
-columns-one : {xs : List ℤ} {t u : List ℕ} → Columns xs t → Columns xs u → t ≡ u
-columns-one (Columns.one w) (Columns.one v) = whole-one w v
-columns-one (Columns.more w c) (Columns.more v d) = ap₂ (λ (t u : List ℕ). t ++ (tab ∷ u)) (whole-one w v) (columns-one c d)
-
-line-text-one : {a : Dated} {t u : List ℕ} → LineText a t → LineText a u → t ≡ u
-line-text-one (of-date c) (of-date d) = columns-one c d
-line-text-one (of-refusal c) (of-refusal d) = ap (λ (t : List ℕ). bytes "!\t" ++ t) (columns-one c d)
-
-ended-one : {a c : Dated} {t u : List ℕ} → a ≡ c → Ended a t → Ended c u → t ≡ u
-ended-one {a} e (ended x) (ended {t = u} y) = ap (λ (t : List ℕ). t ++ (newline ∷ [])) (line-text-one x (subst (λ (d : Dated). LineText d u) (sym e) y))
+ended-same : {a c : Dated} {t u : List ℕ} → a ≡ c → Ended a t → Ended c u → t ≡ u
+ended-same {u = u} e x y = ended-one x (subst (λ (d : Dated). Ended d u) (sym e) y)
 
 listed-is : {l t : List ℕ} → Listed l t → (a : Dated) × LineAnswer l a × Ended a t
-listed-is (listed {a} q x) = (a, q, ended x)
+listed-is (listed {a} q x) = (a, q, x)
 
 pub listed-one : {l t u : List ℕ} → Listed l t → Listed l u → t ≡ u
 listed-one {l} p q =
     let (a, x, y) = listed-is p in
     let (c, v, w) = listed-is q in
-    ended-one (line-answer-one l a c x v) y w
+    ended-same (line-answer-one l a c x v) y w
 
 pub all-listed-one : {ls : List (List ℕ)} {t u : List ℕ} → AllListed ls t → AllListed ls u → t ≡ u
 all-listed-one AllListed.none AllListed.none = refl
@@ -130,7 +121,7 @@ held-answer-one (HeldAnswer.long h) (HeldAnswer.long k) = refl
 
 held-line-one : {l m : List ℕ} {n k : ℕ} {t u : List ℕ} → l ≡ m → n ≡ k → HeldLine l n t → HeldLine m k u → t ≡ u
 held-line-one {l} {m} {n} {k} e f (HeldLine.held-line p x) (HeldLine.held-line {a = c} q y) =
-    ended-one (held-answer-one p (subst (λ (i : List ℕ). HeldAnswer i n c) (sym e) (subst (λ (i : ℕ). HeldAnswer m i c) (sym f) q))) x y
+    ended-same (held-answer-one p (subst (λ (i : List ℕ). HeldAnswer i n c) (sym e) (subst (λ (i : ℕ). HeldAnswer m i c) (sym f) q))) (x .is) (y .is)
 
 last-line-one : {l : List ℕ} {n : ℕ} {t u : List ℕ} → LastLine l n t → LastLine l n u → t ≡ u
 last-line-one LastLine.no-more LastLine.no-more = refl

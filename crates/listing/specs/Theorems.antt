@@ -16,8 +16,8 @@ use Rattle.calendar.specs.Rows.{refuses}
 use Rattle.calendar.specs.declared.Dated.{Dated}
 use Rattle.datetext.specs.Writing.{put}
 use Rattle.datetext.specs.Puts.{put-none, put-then, length-put}
-use Rattle.listing.specs.Lines.{newline, header, Without, Lines, LineAnswer, Listed, listed, AllListed, Listing, listing}
-use Rattle.listing.specs.Columns.{Ended, ended}
+use Rattle.listing.specs.Lines.{header, Without, Lines, LineAnswer, Listed, listed, AllListed, Listing, listing}
+use Rattle.linetext.specs.Line.{newline}
 use Rattle.listing.specs.Blocks.{Fills, HeldAnswer, HeldLine, LastLine, Stand, stand, Turn, Lists}
 use Rattle.listing.specs.One.{listing-one}
 
@@ -74,10 +74,10 @@ holds-more k (Holds.over h i) (Fills.fits f) = absurd (omega arith)
 holds-more {p = p} {q} k (Holds.over h i) (Fills.over f) = (k, Holds.over (omega (arith, length-append p q)) (omega arith))
 
 held-listed : {l : List ℕ} {n : ℕ} {p t : List ℕ} → Holds l n p → HeldLine l n t → Listed p t
-held-listed {l} {n} (Holds.fits h e k) (HeldLine.held-line (HeldAnswer.short {a} i q) (ended x)) = listed (subst (λ (s : List ℕ). LineAnswer s a) k q) x
-held-listed (Holds.fits h e k) (HeldLine.held-line (HeldAnswer.long i) (ended x)) = absurd (omega arith)
-held-listed (Holds.over h k) (HeldLine.held-line (HeldAnswer.short i q) (ended x)) = absurd (omega arith)
-held-listed (Holds.over h k) (HeldLine.held-line (HeldAnswer.long i) (ended x)) = listed (refuses h) x
+held-listed {l} {n} (Holds.fits h e k) (HeldLine.held-line (HeldAnswer.short {a} i q) x) = listed (subst (λ (s : List ℕ). LineAnswer s a) k q) (x .is)
+held-listed (Holds.fits h e k) (HeldLine.held-line (HeldAnswer.long i) x) = absurd (omega arith)
+held-listed (Holds.over h k) (HeldLine.held-line (HeldAnswer.short i q) x) = absurd (omega arith)
+held-listed (Holds.over h k) (HeldLine.held-line (HeldAnswer.long i) x) = listed (refuses h) (x .is)
 
 pub holds-none : (l : List ℕ) → Holds l 0 []
 holds-none l = Holds.fits (omega arith) refl refl

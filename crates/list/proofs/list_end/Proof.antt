@@ -1,6 +1,6 @@
 -- `list::list_end` meets its contract: what was written lies in the buffer.
 -- Assumes nothing.
-use Rattle.listing.specs.Columns.{wrote-inside}
+use Rattle.listing.specs.Blocks.{wrote-inside}
 use borrow.Author.Needs.{needs}
 use Rattle.list.proofs.list_end.Statement.{statement}
 use Rattle.list.proofs.list_end.Tie as tie

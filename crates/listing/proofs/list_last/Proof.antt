@@ -17,7 +17,7 @@ same-length : tie.Need-same-length
 same-length c = search needs
 
 returns : tie.Need-returns
-returns c = last-held (c .before .before .before .before .before .if1 .taken) (c .before .before .before .before .held-answer .ensures) (c .before .before .put-line .ensures)
+returns c = last-held (c .before .before .before .before .before .if1 .taken) (c .before .before .before .held-answer .ensures) (c .before .before .put-line .ensures)
 
 has-room-requires : tie.Need-has-room-requires
 has-room-requires c κs = search needs

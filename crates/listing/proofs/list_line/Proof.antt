@@ -1,6 +1,6 @@
 -- `listing::list_line` meets its promise.
 -- Assumes nothing.
-use Rattle.listing.specs.Columns.{listed-as}
+use Rattle.listing.specs.Blocks.{listed-as}
 use borrow.Author.Needs.{needs}
 use Rattle.listing.proofs.list_line.Statement.{statement}
 use Rattle.listing.proofs.list_line.Tie as tie
@@ -15,7 +15,7 @@ same-length : tie.Need-same-length
 same-length c = search needs
 
 returns : tie.Need-returns
-returns c = listed-as (c .before .before .before .before .line-answer .ensures) (c .before .before .put-line .ensures)
+returns c = listed-as (c .before .before .before .line-answer .ensures) (c .before .before .put-line .ensures)
 
 pub list-line-spec : {M : Type 1} → statement M
 list-line-spec = tie.close (tie.spec line-answer-requires put-line-requires same-length returns)

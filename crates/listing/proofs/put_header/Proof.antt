@@ -1,44 +1,52 @@
 -- `listing::put_header` meets its promise: its bytes are those of the header.
 -- Assumes nothing.
 use Rattle.listing.specs.Blocks.{header-wrote, header-left}
-use borrow.Author.Tests.{leb-true, leb-false}
-use mathlib.Core.Path.{sym, _∙_, refl}
+use mathlib.Core.Path.{refl}
 use Rattle.listing.specs.Lines.{header}
 use Rattle.ncal.specs.Table.{bytes}
 use borrow.Author.Needs.{needs}
 use Rattle.listing.proofs.put_header.Statement.{statement}
 use Rattle.listing.proofs.put_header.Tie as tie
 
-has-room-requires : tie.Need-has-room-requires
-has-room-requires c κs = search needs
+slice-aggregate-copy-text : tie.Need-slice-aggregate-copy-text
+slice-aggregate-copy-text c = search needs
 
-slice-aggregate-put-bytes : tie.Need-slice-aggregate-put-bytes
-slice-aggregate-put-bytes c = search needs
+copy-text-requires : tie.Need-copy-text-requires
+copy-text-requires c κs = search needs
 
-put-bytes-requires : tie.Need-put-bytes-requires
-put-bytes-requires c κs = leb-true _ _ (sym (c .before .before .before .has-room .ensures) ∙ c .before .before .if1 .taken)
+enum-known-end : tie.Need-enum-known-end
+enum-known-end c = search needs
+
+enum-told : tie.Need-enum-told
+enum-told c = search needs
+
+refusal-requires : tie.Need-refusal-requires
+refusal-requires c κs = search needs
 
 same-length : tie.Need-same-length
 same-length c = search needs
 
 returns : tie.Need-returns
 unfolding header bytes
-returns c = header-wrote refl (leb-true _ _ (sym (c .before .before .before .before .before .before .has-room .ensures) ∙ c .before .before .before .before .before .if1 .taken)) (c .before .before .put-bytes .ensures)
+returns c = header-wrote refl (rw (c .before .end .given .1) at (c .before .before .before .before .before .copy-text .ensures))
 
-refusal-requires : tie.Need-refusal-requires
-refusal-requires c κs = search needs
+same-length-2 : tie.Need-same-length-2
+same-length-2 c = search needs
 
 returns-2 : tie.Need-returns-2
-returns-2 c = header-left (leb-false _ _ (sym (c .before .before .has-room .ensures) ∙ c .before .if1 .left)) (c .refusal .ensures)
+unfolding header bytes
+returns-2 c = header-left refl refl (rw (c .before .enum-told .given .1) at (c .before .before .before .before .before .copy-text .ensures)) (c .refusal .ensures)
 
 pub put-header-spec : {M : Type 1} → statement M
 put-header-spec =
     tie.close
     (tie.spec
-    has-room-requires
-    slice-aggregate-put-bytes
-    put-bytes-requires
+    slice-aggregate-copy-text
+    copy-text-requires
+    enum-known-end
+    enum-told
+    refusal-requires
     same-length
     returns
-    refusal-requires
+    same-length-2
     returns-2)

@@ -10,7 +10,7 @@ up-to-requires : tie.Need-up-to-requires
 up-to-requires c κs = search needs
 
 sub-fill : tie.Need-sub-fill
-sub-fill c = c .before .up-to .ensures .1
+sub-fill c = search needs
 
 part-fill-start : tie.Need-part-fill-start
 part-fill-start c = search needs
@@ -21,20 +21,17 @@ part-fill-end c = search needs
 fill-requires : tie.Need-fill-requires
 fill-requires c κs = search needs
 
-held-answer-requires : tie.Need-held-answer-requires
-held-answer-requires c κs = search needs
+put-held-requires : tie.Need-put-held-requires
+put-held-requires c κs = search needs
 
-put-answer-requires : tie.Need-put-answer-requires
-put-answer-requires c κs = search needs
-
-add-t20 : tie.Need-add-t20
-add-t20 c = search needs
+add-t19 : tie.Need-add-t19
+add-t19 c = search needs
 
 same-length : tie.Need-same-length
 same-length c = search needs
 
 returns : tie.Need-returns
-returns c = turn-line (c .before .before .before .before .before .before .before .fill .ensures) (c .before .before .before .before .before .before .before .before .before .before .up-to .ensures .0) (c .before .before .before .before .before .before .if1 .taken) (omega (arith, c .before .before .before .before .before .before .before .before .before .before .before .before .before .pre .0)) (c .before .before .before .before .held-answer .ensures) (c .before .before .put-answer .ensures)
+returns c = turn-line (c .before .before .before .before .before .before .fill .ensures) (c .before .before .before .before .before .before .before .before .before .up-to .ensures .0) (c .before .before .before .before .before .if1 .taken) (omega (arith, c .before .before .before .before .before .before .before .before .before .before .before .before .pre .0)) (c .before .before .put-held .ensures)
 
 returns-2 : tie.Need-returns-2
 returns-2 c = turn-rest (c .before .fill .ensures) (c .before .before .before .before .up-to .ensures .0) (c .if1 .left) (c .before .before .before .before .before .before .before .pre .0)
@@ -48,9 +45,8 @@ turn-spec =
     part-fill-start
     part-fill-end
     fill-requires
-    held-answer-requires
-    put-answer-requires
-    add-t20
+    put-held-requires
+    add-t19
     same-length
     returns
     returns-2)

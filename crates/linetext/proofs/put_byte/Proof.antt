@@ -1,0 +1,22 @@
+-- `linetext::put_byte` meets its contract: a byte stored is a text of one byte put there.
+-- Assumes nothing.
+use mathlib.Core.Path.{refl}
+use Rattle.datetext.specs.Puts.{put-byte}
+use borrow.Author.Needs.{needs}
+use Rattle.linetext.proofs.put_byte.Statement.{statement}
+use Rattle.linetext.proofs.put_byte.Tie as tie
+
+slice-write-out : tie.Need-slice-write-out
+slice-write-out c = search needs
+
+add-result : tie.Need-add-result
+add-result c = search needs
+
+same-length : tie.Need-same-length
+same-length c = search needs
+
+returns : tie.Need-returns
+returns c = record { is = put-byte _ _ _ (c .pre); place = refl }
+
+pub put-byte-spec : {M : Type 1} → statement M
+put-byte-spec = tie.close (tie.spec slice-write-out add-result same-length returns)

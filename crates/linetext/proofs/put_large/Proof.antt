@@ -1,0 +1,39 @@
+-- `linetext::put_large` meets its contract: with room for twenty digits nothing is refused.
+-- Assumes nothing.
+use Rattle.linetext.specs.Laws.{large-done, large-never}
+use borrow.Author.Needs.{needs}
+use Rattle.linetext.proofs.put_large.Statement.{statement}
+use Rattle.linetext.proofs.put_large.Tie as tie
+
+put-at-requires : tie.Need-put-at-requires
+put-at-requires c κs = search needs
+
+enum-known-next : tie.Need-enum-known-next
+enum-known-next c = search needs
+
+enum-told : tie.Need-enum-told
+enum-told c = search needs
+
+same-length : tie.Need-same-length
+same-length c = search needs
+
+returns : tie.Need-returns
+returns c = large-done (c .before .before .before .before .before .before .before .before .fits .n .fits) (rw (c .before .next .given .1) at (c .before .before .before .before .before .put-at .ensures))
+
+same-length-2 : tie.Need-same-length-2
+same-length-2 c = search needs
+
+returns-2 : tie.Need-returns-2
+returns-2 c = absurd (large-never (c .before .before .before .before .before .before .before .fits .n .fits) (c .before .before .before .before .before .before .before .pre) (rw (c .enum-told .given .1) at (c .before .before .before .before .put-at .ensures)))
+
+pub put-large-spec : {M : Type 1} → statement M
+put-large-spec =
+    tie.close
+    (tie.spec
+    put-at-requires
+    enum-known-next
+    enum-told
+    same-length
+    returns
+    same-length-2
+    returns-2)

@@ -1,0 +1,37 @@
+-- `linetext::put_place` meets its contract: four columns, joined from the last one on.
+-- Assumes nothing.
+use Rattle.linetext.specs.Laws.{row-last, row-more, ends}
+use native.Mathlib.Omega.{arith}
+use borrow.Author.Needs.{needs}
+use Rattle.linetext.proofs.put_place.Statement.{statement}
+use Rattle.linetext.proofs.put_place.Tie as tie
+
+put-count-requires : tie.Need-put-count-requires
+put-count-requires c κs = search needs
+
+put-count-requires-2 : tie.Need-put-count-requires-2
+put-count-requires-2 c κs = search needs
+
+put-count-requires-3 : tie.Need-put-count-requires-3
+put-count-requires-3 c κs = search needs
+
+put-count-requires-4 : tie.Need-put-count-requires-4
+put-count-requires-4 c κs = search needs
+
+same-length : tie.Need-same-length
+same-length c = search needs
+
+returns : tie.Need-returns
+returns c =
+    row-more (omega arith) (c .before .before .before .before .before .before .before .before .before .before .before .before .before .before .put-count .ensures) (row-more (omega (arith, ends (c .before .before .before .before .before .before .before .before .before .before .before .before .before .before .put-count .ensures), c .before .before .before .before .before .before .before .before .before .before .before .before .before .before .put-count .kept .0)) (c .before .before .before .before .before .before .before .before .before .before .put-count2 .ensures) (row-more (omega (arith, ends (c .before .before .before .before .before .before .before .before .before .before .before .before .before .before .put-count .ensures), c .before .before .before .before .before .before .before .before .before .before .before .before .before .before .put-count .kept .0, ends (c .before .before .before .before .before .before .before .before .before .before .put-count2 .ensures), c .before .before .before .before .before .before .before .before .before .before .put-count2 .kept .0)) (c .before .before .before .before .before .before .put-count3 .ensures) (row-last (c .before .before .put-count4 .ensures))))
+
+pub put-place-spec : {M : Type 1} → statement M
+put-place-spec =
+    tie.close
+    (tie.spec
+    put-count-requires
+    put-count-requires-2
+    put-count-requires-3
+    put-count-requires-4
+    same-length
+    returns)

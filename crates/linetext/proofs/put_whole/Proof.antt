@@ -1,0 +1,41 @@
+-- `linetext::put_whole` meets its contract.
+-- Assumes nothing.
+use Rattle.linetext.specs.Laws.{whole-column}
+use mathlib.Core.Path.{ap, _∙_}
+use lib.IntN.{natAbs}
+use mir.Facts.{toZ-ofZ}
+use Rattle.whole.specs.Edge.{isNegative}
+use borrow.Author.Needs.{needs}
+use Rattle.linetext.proofs.put_whole.Statement.{statement}
+use Rattle.linetext.proofs.put_whole.Tie as tie
+
+is-negative-requires : tie.Need-is-negative-requires
+is-negative-requires c κs = search needs
+
+magnitude-requires : tie.Need-magnitude-requires
+magnitude-requires c κs = search needs
+
+put-signed-requires : tie.Need-put-signed-requires
+put-signed-requires c κs = search needs
+
+put-byte-requires : tie.Need-put-byte-requires
+put-byte-requires c κs = search needs
+
+same-length : tie.Need-same-length
+same-length c = search needs
+
+returns : tie.Need-returns
+returns c =
+    let r = toZ-ofZ (c .before .before .before .before .before .before .before .before .before .before .before .fits .x) in
+    whole-column (c .before .before .before .before .before .before .before .before .before .is-negative .ensures ∙ ap isNegative r) (c .before .before .before .before .before .before .before .before .magnitude .ensures ∙ ap natAbs r) (c .before .before .before .before .before .before .before .before .before .before .before .pre) (c .before .before .before .before .before .before .put-signed .ensures) (c .before .before .put-byte .ensures)
+
+pub put-whole-spec : {M : Type 1} → statement M
+put-whole-spec =
+    tie.close
+    (tie.spec
+    is-negative-requires
+    magnitude-requires
+    put-signed-requires
+    put-byte-requires
+    same-length
+    returns)

@@ -1,0 +1,250 @@
+-- Numbers written one after another into a lent buffer, and a whole line of them.
+-- Assumes nothing.
+use Prim.Native.Nat.{ℕ, zero, suc, _+_, _/_, _%_, _≤_, _<_, _^_}
+use mathlib.Core.Path.{_≡_, refl, sym, _∙_, ap, subst}
+use mathlib.Core.Bool.{Bool, true, false}
+use mathlib.Core.List.{List, [], _∷_, _++_, append-assoc}
+use native.Mathlib.Omega.{arith}
+use native.Mathlib.Nat.{div-div-eq-div-mul}
+use lib.ListN.{length, getD, take, drop, set, length-append, length-set}
+use lib.Seq.{take-suc, take-all, take-at, length-take-le}
+use lib.IntN.{ℤ, pos, natAbs}
+use Rattle.whole.specs.Edge.{isNegative}
+use Rattle.days.specs.DayByDay.{weekday}
+use Rattle.numbertext.specs.Numerals.{dash, refusal}
+use Rattle.calendar.specs.declared.Date.{Date}
+use Rattle.calendar.specs.declared.Refusal.{Refusal}
+use Rattle.calendar.specs.declared.Dated.{Dated}
+use Rattle.calendar.specs.declared.Dated.the-variants as Dated′
+use Rattle.datetext.specs.Writing.{WholeDecimal, put, Puts, Writes}
+use Rattle.datetext.specs.Decimals.{digitsOf, length-digits, Width, width-few, decimal-of, counting-start, counting-step}
+use Rattle.datetext.specs.Puts.{put-none, put-byte, put-then, length-put, So, so-on, wrote, left-alone, wholeText, Signs, whole-text}
+use Rattle.datetext.specs.declared.Written.{Written}
+use Rattle.linetext.specs.Line.{newline, tab, mark, Columns, dateColumns, refusalColumns, of-date, of-refusal, Ended, ended, LineOut, Copies, copied, no-room}
+use Rattle.linetext.specs.declared.Copied.{Copied}
+
+-- ---- a text of at most m bytes, as IsText says, stands in the buffer from `at` on, and every other byte is as it was; i is the place after it
+
+pub record Text (IsText : List ℕ → Type 0) (m : ℕ) (b : List ℕ) (at : ℕ) (b′ : List ℕ) (i : ℕ) : Type 0 where
+  pub text : List ℕ
+  pub is : IsText text
+  pub short : length text ≤ m
+  pub so : So b at text b′ i
+
+module _ {P : List ℕ → Type 0} {m : ℕ} {b : List ℕ} {at : ℕ} {b′ : List ℕ} {i : ℕ} (t : Text P m b at b′ i) where
+  pub ends : i ≤ at + m
+  ends = omega (arith, t .so .place, t .short)
+
+  -- the same text, said otherwise
+  pub text-as : {Q : List ℕ → Type 0} {n : ℕ} → ((u : List ℕ) → P u → Q u) → m ≤ n → Text Q n b at b′ i
+  text-as f h = record { text = t .text; is = f (t .text) (t .is); short = omega (arith, t .short); so = t .so }
+
+  -- a text after it
+  pub text-then : {Q R : List ℕ → Type 0} {k : ℕ} {c : List ℕ} {j : ℕ} → Text Q k b′ i c j → ((u v : List ℕ) → P u → Q v → R (u ++ v)) → at + m + k ≤ length b → Text R (m + k) b at c j
+  text-then s f h =
+      record {
+        text = t .text ++ s .text;
+        is = f (t .text) (s .text) (t .is) (s .is);
+        short = omega (arith, length-append (t .text) (s .text), t .short, s .short);
+        so = so-on (t .so) (s .text) (omega (arith, t .short, s .short)) (s .so);
+      }
+
+pub so-text : {P : List ℕ → Type 0} {b : List ℕ} {at : ℕ} {t b′ : List ℕ} {i m : ℕ} → P t → length t ≤ m → So b at t b′ i → Text P m b at b′ i
+so-text {t = t} p h s = record { text = t; is = p; short = h; so = s }
+
+-- ---- digits
+
+pub so-digit : (k n : ℕ) {b : List ℕ} {at : ℕ} {b₁ b₂ : List ℕ} {i j : ℕ} → at + suc k ≤ length b → So b at (digitsOf k (n / 10)) b₁ i → So b₁ i (digitsOf 1 n) b₂ j → So b at (digitsOf (suc k) n) b₂ j
+so-digit k n h s r = so-on s (digitsOf 1 n) (omega (arith, length-digits k (n / 10), length-digits 1 n)) r
+
+-- all digits of a number
+pub so-number : (k n : ℕ) {b : List ℕ} {at : ℕ} {b′ : List ℕ} {i m : ℕ} → n < 10 ^ suc k → (1 ≤ k → 10 ^ k ≤ n) → suc k ≤ m → So b at (digitsOf (suc k) n) b′ i → Text (Signs false n) m b at b′ i
+so-number k n l g h s = so-text (Signs.signs (record { less = k; is = refl; below = l; least = g })) (omega (arith, length-digits (suc k) n)) s
+
+tens : (n : ℕ) → n / 10 / 10 / 10 / 10 ≡ n / 10000
+tens n = omega arith
+
+four-on : (j n : ℕ) → digitsOf j (n / 10000) ++ digitsOf 4 n ≡ digitsOf (j + 4) n
+four-on j n = sym (ap (λ (k : ℕ). digitsOf k n) (sucs j) ∙ parts ∙ ap (λ (q : ℕ). digitsOf j q ++ digitsOf 4 n) (tens n))
+  where
+    sucs : (k : ℕ) → k + 4 ≡ suc (suc (suc (suc k)))
+    sucs k = omega arith
+
+    parts : digitsOf (suc (suc (suc (suc j)))) n ≡ digitsOf j (n / 10 / 10 / 10 / 10) ++ digitsOf 4 n
+    parts = simp append-assoc
+
+-- the digits above the last four, and those
+pub so-eight : {n : ℕ} {b : List ℕ} {at : ℕ} {b₁ b₂ : List ℕ} {i j : ℕ} → 10000 ≤ n → at + 8 ≤ length b → Text (Signs false (n / 10000)) 4 b at b₁ i → So b₁ i (digitsOf 4 n) b₂ j → Text (Signs false n) 20 b at b₂ j
+so-eight {n} h l t s = text-as (text-then t (so-text {P = λ (v : List ℕ). v ≡ digitsOf 4 n} {m = 4} refl (omega (arith, length-digits 4 n)) s) both (omega arith)) (λ u p. p) (omega arith)
+  where
+    both : (u v : List ℕ) → Signs false (n / 10000) u → v ≡ digitsOf 4 n → Signs false n (u ++ v)
+    both u v (Signs.signs {k} w) e =
+        subst (Signs false n) (sym (ap (λ (x : List ℕ). digitsOf k (n / 10000) ++ x) e ∙ four-on k n)) (Signs.signs (counting-step (counting-start n) h .more k w))
+
+-- a number that was put with room for twenty digits
+module _ {n : ℕ} {b : List ℕ} {at : ℕ} (fits : n < 2 ^ 64) where
+  pub large-done : {b′ : List ℕ} {i : ℕ} → Writes (Signs false n) b at b′ (Written.Done i) → Text (Signs false n) 20 b at b′ i
+  large-done (Writes.writes (Signs.signs {k} w) (Puts.done h)) =
+      record { text = digitsOf k n; is = Signs.signs w; short = omega (arith, length-digits k n, width-few w fits); so = record { is = refl; place = refl } }
+
+  pub large-never : {b′ : List ℕ} {f : Refusal} → at + 20 ≤ length b → Writes (Signs false n) b at b′ (Written.Refused f) → ⊥
+  large-never h (Writes.writes (Signs.signs {k} w) (Puts.short l)) = omega (arith, length-digits k n, width-few w fits)
+
+-- a sign, and the digits
+pub so-minus : {neg : Bool} {n : ℕ} {b : List ℕ} {at : ℕ} {b₁ b₂ : List ℕ} {i j : ℕ} → neg ≡ true → at + 21 ≤ length b → So b at (dash ∷ []) b₁ i → Text (Signs false n) 20 b₁ i b₂ j → Text (Signs neg n) 21 b at b₂ j
+so-minus {neg} {n} e h s t = text-then (so-text {P = λ (v : List ℕ). v ≡ dash ∷ []} {m = 1} refl (omega arith) s) t both (omega arith)
+  where
+    both : (u v : List ℕ) → u ≡ dash ∷ [] → Signs false n v → Signs neg n (u ++ v)
+    both u v p (Signs.signs {k} w) = subst (λ (x : List ℕ). Signs neg n (x ++ digitsOf k n)) (sym p) (subst (λ (g : Bool). Signs g n (dash ∷ digitsOf k n)) (sym e) (Signs.signs w))
+
+pub so-plus : {neg : Bool} {n : ℕ} {b : List ℕ} {at : ℕ} {b′ : List ℕ} {i : ℕ} → neg ≡ false → Text (Signs false n) 20 b at b′ i → Text (Signs neg n) 21 b at b′ i
+so-plus {neg} {n} e t = text-as t (λ u. subst (λ (g : Bool). Signs g n u) (sym e)) (omega arith)
+
+-- ---- a column: a number and the byte after it
+
+pub data Cell (x : ℤ) (after : ℕ) : List ℕ → Type 0 where
+  cell : {u : List ℕ} → WholeDecimal u x → Cell x after (u ++ (after ∷ []))
+
+abbrev pub Column : ℤ → ℕ → List ℕ → ℕ → List ℕ → ℕ → Type 0
+Column x after = Text (Cell x after) 22
+
+closed : {x : ℤ} {after m : ℕ} {P : List ℕ → Type 0} {b : List ℕ} {at : ℕ} {b₁ b₂ : List ℕ} {i j : ℕ} → ((u : List ℕ) → P u → WholeDecimal u x) → m ≤ 21 → at + 22 ≤ length b
+    → Text P m b at b₁ i → So b₁ i (after ∷ []) b₂ j → Column x after b at b₂ j
+closed {x} {after} {P = P} f k h t s = text-as (text-then t (so-text {P = λ (v : List ℕ). v ≡ after ∷ []} {m = 1} refl (omega arith) s) both (omega arith)) (λ u p. p) (omega arith)
+  where
+    both : (u v : List ℕ) → P u → v ≡ after ∷ [] → Cell x after (u ++ v)
+    both u v p e = subst (λ (y : List ℕ). Cell x after (u ++ y)) (sym e) (cell (f u p))
+
+pub count-column : {n after : ℕ} {b : List ℕ} {at : ℕ} {b₁ b₂ : List ℕ} {i j : ℕ} → at + 22 ≤ length b → Text (Signs false n) 20 b at b₁ i → So b₁ i (after ∷ []) b₂ j → Column (pos n) after b at b₂ j
+count-column {n} = closed by (omega arith)
+  where
+    by : (u : List ℕ) → Signs false n u → WholeDecimal u (pos n)
+    by u (Signs.signs w) = WholeDecimal.not-negative (decimal-of w)
+
+pub whole-column : {x : ℤ} {neg : Bool} {n after : ℕ} {b : List ℕ} {at : ℕ} {b₁ b₂ : List ℕ} {i j : ℕ} → neg ≡ isNegative x → n ≡ natAbs x → at + 22 ≤ length b
+    → Text (Signs neg n) 21 b at b₁ i → So b₁ i (after ∷ []) b₂ j → Column x after b at b₂ j
+whole-column {x} {neg} {n} e h = closed (λ u s. by u (subst (λ (i : ℕ). Signs (isNegative x) i u) h (subst (λ (g : Bool). Signs g n u) e s))) (omega arith)
+  where
+    by : (u : List ℕ) → Signs (isNegative x) (natAbs x) u → WholeDecimal u x
+    by u (Signs.signs {k} w) = whole-text x k w
+
+-- ---- columns up to the newline, from the last one on
+
+pub data Row (xs : List ℤ) : List ℕ → Type 0 where
+  row : {t : List ℕ} → Columns xs t → Row xs (t ++ (newline ∷ []))
+
+abbrev pub RowOf : List ℤ → ℕ → List ℕ → ℕ → List ℕ → ℕ → Type 0
+RowOf xs = Text (Row xs)
+
+pub row-last : {x : ℤ} {b : List ℕ} {at : ℕ} {b′ : List ℕ} {i : ℕ} → Column x newline b at b′ i → RowOf (x ∷ []) 22 b at b′ i
+row-last {x} c = text-as c by (omega arith)
+  where
+    by : (u : List ℕ) → Cell x newline u → Row (x ∷ []) u
+    by u (cell w) = row (Columns.one w)
+
+pub row-more : {x : ℤ} {xs : List ℤ} {m : ℕ} {b : List ℕ} {at : ℕ} {b₁ b₂ : List ℕ} {i j : ℕ} → at + 22 + m ≤ length b → Column x tab b at b₁ i → RowOf xs m b₁ i b₂ j → RowOf (x ∷ xs) (22 + m) b at b₂ j
+row-more {x} {xs} h c r = text-then c r both h
+  where
+    both : (u v : List ℕ) → Cell x tab u → Row xs v → Row (x ∷ xs) (u ++ v)
+    both u v (cell {u = s} w) (row {t} y) = subst (Row (x ∷ xs)) (parted s t) (row (Columns.more w y))
+      where
+        parted : (s t : List ℕ) → (s ++ (tab ∷ t)) ++ (newline ∷ []) ≡ (s ++ (tab ∷ [])) ++ (t ++ (newline ∷ []))
+        parted s t = simp append-assoc
+
+-- ---- a line of output
+
+abbrev pub LineOf : Dated → List ℕ → ℕ → List ℕ → ℕ → Type 0
+LineOf a = Text (Ended a) 132
+
+pub date-line : {d : Date} {b : List ℕ} {at : ℕ} {b′ : List ℕ} {i : ℕ} → RowOf (dateColumns d) 132 b at b′ i → LineOf (Dated′.Date d) b at b′ i
+date-line {d} r = text-as r by (omega arith)
+  where
+    by : (u : List ℕ) → Row (dateColumns d) u → Ended (Dated′.Date d) u
+    by u (row c) = ended (of-date c)
+
+pub refusal-line : {f : Refusal} {b : List ℕ} {at : ℕ} {b₁ b₂ b₃ : List ℕ} {i j k : ℕ} → at + 68 ≤ length b → So b at (mark ∷ []) b₁ i → So b₁ i (tab ∷ []) b₂ j → RowOf (refusalColumns f) 66 b₂ j b₃ k → LineOf (Dated′.Refused f) b at b₃ k
+refusal-line {f} h s t r = text-as (text-then (so-text {P = λ (v : List ℕ). v ≡ mark ∷ (tab ∷ [])} {m = 2} refl (omega arith) (so-on s (tab ∷ []) (omega arith) t)) r both (omega arith)) (λ u p. p) (omega arith)
+  where
+    both : (u v : List ℕ) → u ≡ mark ∷ (tab ∷ []) → Row (refusalColumns f) v → Ended (Dated′.Refused f) (u ++ v)
+    both u v e (row c) = subst (λ (y : List ℕ). Ended (Dated′.Refused f) (y ++ v)) (sym e) (ended (of-refusal c))
+
+-- ---- the same by equal values
+
+pub column-as : {x y : ℤ} {after : ℕ} {b : List ℕ} {at : ℕ} {b′ : List ℕ} {i : ℕ} → x ≡ y → Column x after b at b′ i → Column y after b at b′ i
+column-as {after = after} {b} {at} {b′} {i} e = subst (λ (z : ℤ). Column z after b at b′ i) e
+
+pub line-as : {a c : Dated} {b : List ℕ} {at : ℕ} {b′ : List ℕ} {i : ℕ} → a ≡ c → LineOf c b at b′ i → LineOf a b at b′ i
+line-as {b = b} {at} {b′} {i} e = subst (λ (d : Dated). LineOf d b at b′ i) (sym e)
+
+-- the columns of a date, whose first two are signed
+pub date-row : {d : Date} {x y : ℤ} {w : ℕ} {b : List ℕ} {at : ℕ} {b₁ b₂ b₃ : List ℕ} {i₁ i₂ i₃ : ℕ} → at + 132 ≤ length b → length b ≤ length b₁ → x ≡ d .jdn → y ≡ d .year → w ≡ weekday (d .jdn)
+    → Column x tab b at b₁ i₁ → Column y tab b₁ i₁ b₂ i₂ → RowOf (pos (d .ordinal) ∷ pos (d .month) ∷ pos (d .day) ∷ pos w ∷ []) 88 b₂ i₂ b₃ i₃ → LineOf (Dated′.Date d) b at b₃ i₃
+date-row {d} {b₂ = b₂} {b₃ = b₃} {i₂ = i₂} {i₃ = i₃} h l e f g c₁ c₂ r =
+    date-line {d = d} (row-more {m = 110} (omega arith) (column-as e c₁) (row-more {m = 88} (omega (arith, ends c₁)) (column-as f c₂)
+    (subst (λ (k : ℕ). RowOf (pos (d .ordinal) ∷ pos (d .month) ∷ pos (d .day) ∷ pos k ∷ []) 88 b₂ i₂ b₃ i₃) g r)))
+
+-- ---- bytes copied into the buffer, one after another
+
+pub record Copying (b₀ : List ℕ) (at : ℕ) (t b : List ℕ) (i : ℕ) : Type 0 where
+  pub is : b ≡ put b₀ at (take i t)
+  pub inside : i ≤ length t
+  pub same : length b ≡ length b₀
+
+pub copying-start : (b : List ℕ) (at : ℕ) (t : List ℕ) → Copying b at t b 0
+copying-start b at t = record { is = sym (put-none b at); inside = omega arith; same = refl }
+
+module _ {b₀ : List ℕ} {at : ℕ} {t b : List ℕ} {i : ℕ} (h : at + length t ≤ length b₀) (c : Copying b₀ at t b i) where
+  pub copying-on : i < length t → Copying b₀ at t (set b (at + i) (getD t i 0)) (i + 1)
+  copying-on l =
+      record {
+        is = put-byte b (at + i) (getD t i 0) (omega (arith, c .same)) ∙ ap (λ (x : List ℕ). put x (at + i) (getD t i 0 ∷ [])) (c .is) ∙ ap (λ (k : ℕ). put (put b₀ at (take i t)) (at + k) (getD t i 0 ∷ [])) (sym long)
+            ∙ put-then b₀ at (take i t) (getD t i 0 ∷ []) (omega (arith, long)) ∙ ap (put b₀ at) (sym (take-suc t i 0 l)) ∙ ap (λ (k : ℕ). put b₀ at (take k t)) one-on;
+        inside = omega arith;
+        same = length-set b (at + i) (getD t i 0) ∙ c .same;
+      }
+    where
+      long : length (take i t) ≡ i
+      long = length-take-le i t (c .inside)
+
+      one-on : suc i ≡ i + 1
+      one-on = omega arith
+
+  pub copying-done : length t ≤ i → So b₀ at t b (at + length t)
+  copying-done l = record { is = c .is ∙ ap (put b₀ at) (take-all i t l); place = refl }
+
+-- ---- a text made apart, at the front of a buffer of its own
+
+module _ {P : List ℕ → Type 0} {m : ℕ} {z z′ : List ℕ} {n : ℕ} (t : Text P m z 0 z′ n) where
+  apart-long : n ≡ length (t .text)
+  apart-long = omega (arith, t .so .place)
+
+  pub apart-is : take n z′ ≡ t .text
+  apart-is = ap (take n) (t .so .is) ∙ take-at (t .text) (drop (0 + length (t .text)) z) n (omega (arith, t .so .place))
+
+  pub apart-few : n ≤ m
+  apart-few = omega (arith, apart-long, t .short)
+
+  pub apart-part : n ≡ length (take n z′)
+  apart-part = apart-long ∙ sym (ap length apart-is)
+
+  pub apart-room : (len at : ℕ) → at + n ≤ len → at + length (take n z′) ≤ len
+  apart-room len at = subst (λ (k : ℕ). at + k ≤ len) apart-part
+
+  -- it has room, and was copied; or it has not
+  pub apart-done : {b : List ℕ} {at : ℕ} {b′ : List ℕ} {i : ℕ} → at + n ≤ length b → So b at (take n z′) b′ i → Writes P b at b′ (Written.Done i)
+  apart-done {b} {at} {b′} {i} h s = wrote (t .is) (omega (arith, apart-long)) (subst (λ (u : List ℕ). So b at u b′ i) apart-is s)
+
+  pub apart-left : {b : List ℕ} {at : ℕ} {f : Refusal} → length b < at + n → f ≡ refusal 18 0 (pos n) → Writes P b at b (Written.Refused f)
+  apart-left h g = left-alone (t .text) (t .is) apart-long (omega (arith, apart-long)) g
+
+pub text-wrote : {P : List ℕ → Type 0} {m : ℕ} {b : List ℕ} {at : ℕ} {b′ : List ℕ} {i : ℕ} → at + m ≤ length b → Text P m b at b′ i → Writes P b at b′ (Written.Done i)
+text-wrote h t = wrote (t .is) (omega (arith, t .short)) (t .so)
+
+-- ---- what the public writers promise
+
+-- a line with its length
+pub lined : {a : Dated} {b : List ℕ} {at : ℕ} {b′ : List ℕ} {i : ℕ} → LineOf a b at b′ i → Text (LineOut a) 132 b at b′ i
+lined {a} t = record { text = t .text; is = record { is = t .is; short = t .short }; short = t .short; so = t .so }
+
+pub copied-to : {t b : List ℕ} {at : ℕ} {b′ : List ℕ} {i : ℕ} → at + length t ≤ length b → So b at t b′ i → Copies t b at b′ (Copied.To i)
+copied-to {t} {b} {at} {b′} {i} h s = subst (λ (x : List ℕ). Copies t b at x (Copied.To i)) (sym (s .is)) (subst (λ (k : ℕ). Copies t b at (put b at t) (Copied.To k)) (sym (s .place)) (copied h))

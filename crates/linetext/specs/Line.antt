@@ -1,0 +1,53 @@
+-- What is written for an answer: its numbers in columns. And what a writer of it promises.
+-- Assumes nothing.
+use Prim.Native.Nat.{ℕ, _+_, _≤_, _<_}
+use mathlib.Core.List.{List, [], _∷_, _++_}
+use lib.ListN.{length}
+use lib.IntN.{ℤ, pos}
+use Rattle.days.specs.DayByDay.{weekday}
+use Rattle.calendar.specs.declared.Date.{Date}
+use Rattle.calendar.specs.declared.Refusal.{Refusal}
+use Rattle.calendar.specs.declared.Dated.{Dated}
+use Rattle.calendar.specs.declared.Dated.the-variants as Dated′
+use Rattle.datetext.specs.Writing.{WholeDecimal, put}
+use Rattle.linetext.specs.declared.Copied.{Copied}
+
+abbrev pub newline : ℕ
+newline = 10
+
+abbrev pub tab : ℕ
+tab = 9
+
+-- the mark of a refusal, `!`
+abbrev pub mark : ℕ
+mark = 33
+
+-- numbers parted by tabs
+pub data Columns : List ℤ → List ℕ → Type 0 where
+  one : {x : ℤ} {t : List ℕ} → WholeDecimal t x → Columns (x ∷ []) t
+  more : {x : ℤ} {xs : List ℤ} {t u : List ℕ} → WholeDecimal t x → Columns xs u → Columns (x ∷ xs) (t ++ (tab ∷ u))
+
+abbrev pub dateColumns : Date → List ℤ
+dateColumns d = d .jdn ∷ d .year ∷ pos (d .ordinal) ∷ pos (d .month) ∷ pos (d .day) ∷ pos (weekday (d .jdn)) ∷ []
+
+abbrev pub refusalColumns : Refusal → List ℤ
+refusalColumns f = pos (f .number) ∷ pos (f .place) ∷ f .value ∷ []
+
+pub data LineText : Dated → List ℕ → Type 0 where
+  of-date : {d : Date} {t : List ℕ} → Columns (dateColumns d) t → LineText (Dated′.Date d) t
+  of-refusal : {f : Refusal} {t : List ℕ} → Columns (refusalColumns f) t → LineText (Dated′.Refused f) (mark ∷ (tab ∷ t))
+
+-- with the newline after it
+pub data Ended (a : Dated) : List ℕ → Type 0 where
+  ended : {t : List ℕ} → LineText a t → Ended a (t ++ (newline ∷ []))
+
+-- which has at most 132 bytes: six columns of at most 20 digits, a sign and the byte after them
+pub record LineOut (a : Dated) (t : List ℕ) : Type 0 where
+  pub is : Ended a t
+  pub short : length t ≤ 132
+
+-- ---- the text t is copied into the buffer b from `at` on, and the answer tells the place after it; or b is too short for it, and is left as it was
+
+pub data Copies (t b : List ℕ) (at : ℕ) : List ℕ → Copied → Type 0 where
+  copied : at + length t ≤ length b → Copies t b at (put b at t) (Copied.To (at + length t))
+  no-room : length b < at + length t → Copies t b at b Copied.NoRoom

@@ -1,0 +1,242 @@
+// A line of the listing: the numbers of a date or of a refusal in columns, written into a lent buffer. Each public call writes its text and
+// tells the place after it, or refuses 18 and leaves the buffer as it was.
+
+ghost use mathlib.Core.Path.{_≡_};
+ghost use mathlib.Core.List.{[], _∷_};
+ghost use mathlib.Core.Bool.{false};
+ghost use Prim.Native.Nat.{_+_, _<_, _≤_};
+ghost use lib.ListN.{length};
+ghost use lib.IntN.{pos};
+ghost use Rattle.datetext.specs.Writing.{Writes};
+ghost use Rattle.datetext.specs.Decimals.{digitsOf};
+ghost use Rattle.datetext.specs.Puts.{So, Signs};
+ghost use Rattle.calendar.specs.declared.Dated.the-variants.{Date as OfDate, Refused};
+ghost use Rattle.linetext.specs.Line.{LineOut, Copies};
+ghost use Rattle.linetext.specs.Laws.{Text, Column, RowOf, LineOf};
+use calendar::Date;
+use calendar::Dated;
+use calendar::Refusal;
+use calendar::Weekday;
+use datetext::Written;
+
+// ---- numbers in columns. Each function writes from `at` on, and answers the place after what it wrote.
+
+fn put_byte(out: &mut [u8], at: usize, b: u8) -> usize
+    requires { ⌜ at < length (now out) ⌝ }
+    ensures { λ r. ⌜ So (now (out .entry)) at (b ∷ []) (now (out .exit)) r ⌝ }
+{
+    out[at] = b;
+    at + 1
+}
+
+// The last digit of n; the last two; and so on.
+fn put_digit(out: &mut [u8], at: usize, n: u64) -> usize
+    requires { ⌜ at < length (now out) ⌝ }
+    ensures { λ r. ⌜ So (now (out .entry)) at (digitsOf 1 n) (now (out .exit)) r ⌝ }
+{
+    out[at] = (48 + n % 10) as u8;
+    at + 1
+}
+
+fn put_two(out: &mut [u8], at: usize, n: u64) -> usize
+    requires { ⌜ at + 2 ≤ length (now out) ⌝ }
+    ensures { λ r. ⌜ So (now (out .entry)) at (digitsOf 2 n) (now (out .exit)) r ⌝ }
+{
+    let next = put_digit(out, at, n / 10);
+    put_digit(out, next, n)
+}
+
+fn put_three(out: &mut [u8], at: usize, n: u64) -> usize
+    requires { ⌜ at + 3 ≤ length (now out) ⌝ }
+    ensures { λ r. ⌜ So (now (out .entry)) at (digitsOf 3 n) (now (out .exit)) r ⌝ }
+{
+    let next = put_two(out, at, n / 10);
+    put_digit(out, next, n)
+}
+
+fn put_four(out: &mut [u8], at: usize, n: u64) -> usize
+    requires { ⌜ at + 4 ≤ length (now out) ⌝ }
+    ensures { λ r. ⌜ So (now (out .entry)) at (digitsOf 4 n) (now (out .exit)) r ⌝ }
+{
+    let next = put_three(out, at, n / 10);
+    put_digit(out, next, n)
+}
+
+// A number below ten thousand.
+fn put_small(out: &mut [u8], at: usize, n: u64) -> usize
+    requires { ⌜ (at + 4 ≤ length (now out)) × (n < 10000) ⌝ }
+    ensures { λ r. ⌜ Text (Signs false n) 4 (now (out .entry)) at (now (out .exit)) r ⌝ }
+{
+    if n < 10 {
+        return put_digit(out, at, n);
+    }
+    if n < 100 {
+        return put_two(out, at, n);
+    }
+    if n < 1000 {
+        return put_three(out, at, n);
+    }
+    put_four(out, at, n)
+}
+
+fn put_large(out: &mut [u8], at: usize, n: u64) -> usize
+    requires { ⌜ at + 20 ≤ length (now out) ⌝ }
+    ensures { λ r. ⌜ Text (Signs false n) 20 (now (out .entry)) at (now (out .exit)) r ⌝ }
+{
+    match datetext::put_at(out, at, false, n) {
+        Written::Done(next) => next,
+        Written::Refused(_) => at,
+    }
+}
+
+// Most numbers of a listing have fewer than nine digits.
+fn put_natural(out: &mut [u8], at: usize, n: u64) -> usize
+    requires { ⌜ at + 20 ≤ length (now out) ⌝ }
+    ensures { λ r. ⌜ Text (Signs false n) 20 (now (out .entry)) at (now (out .exit)) r ⌝ }
+{
+    if n < 10_000 {
+        return put_small(out, at, n);
+    }
+    if n < 100_000_000 {
+        let next = put_small(out, at, n / 10_000);
+        return put_four(out, next, n);
+    }
+    put_large(out, at, n)
+}
+
+fn put_signed(out: &mut [u8], at: usize, negative: bool, n: u64) -> usize
+    requires { ⌜ at + 21 ≤ length (now out) ⌝ }
+    ensures { λ r. ⌜ Text (Signs negative n) 21 (now (out .entry)) at (now (out .exit)) r ⌝ }
+{
+    if negative {
+        let next = put_byte(out, at, 45);
+        return put_natural(out, next, n);
+    }
+    put_natural(out, at, n)
+}
+
+// A number, and the byte after it.
+fn put_count(out: &mut [u8], at: usize, n: u64, after: u8) -> usize
+    requires { ⌜ at + 22 ≤ length (now out) ⌝ }
+    ensures { λ r. ⌜ Column (pos n) after (now (out .entry)) at (now (out .exit)) r ⌝ }
+{
+    let next = put_natural(out, at, n);
+    put_byte(out, next, after)
+}
+
+fn put_whole(out: &mut [u8], at: usize, x: i64, after: u8) -> usize
+    requires { ⌜ at + 22 ≤ length (now out) ⌝ }
+    ensures { λ r. ⌜ Column x after (now (out .entry)) at (now (out .exit)) r ⌝ }
+{
+    let negative = whole::is_negative(x);
+    let n = whole::magnitude(x);
+    let next = put_signed(out, at, negative, n);
+    put_byte(out, next, after)
+}
+
+// ---- a line of output, with its newline
+
+fn put_int(out: &mut [u8], at: usize, x: i32, after: u8) -> usize
+    requires { ⌜ at + 22 ≤ length (now out) ⌝ }
+    ensures { λ r. ⌜ Column x after (now (out .entry)) at (now (out .exit)) r ⌝ }
+{
+    put_whole(out, at, whole::widened(x), after)
+}
+
+// The last four columns of a date.
+fn put_place(out: &mut [u8], at: usize, ordinal: u32, month: u32, day: u32, weekday: u32) -> usize
+    requires { ⌜ at + 88 ≤ length (now out) ⌝ }
+    ensures { λ r. ⌜ RowOf (pos ordinal ∷ pos month ∷ pos day ∷ pos weekday ∷ []) 88 (now (out .entry)) at (now (out .exit)) r ⌝ }
+{
+    let second = put_count(out, at, ordinal as u64, 9);
+    let third = put_count(out, second, month as u64, 9);
+    let fourth = put_count(out, third, day as u64, 9);
+    put_count(out, fourth, weekday as u64, 10)
+}
+
+fn put_date(out: &mut [u8], at: usize, date: Date) -> usize
+    requires { ⌜ at + 132 ≤ length (now out) ⌝ }
+    ensures { λ r. ⌜ LineOf (OfDate date) (now (out .entry)) at (now (out .exit)) r ⌝ }
+{
+    let weekday = Weekday::for_jdn(date.jdn);
+    let second = put_int(out, at, date.jdn, 9);
+    let third = put_int(out, second, date.year, 9);
+    put_place(out, third, date.ordinal, date.month, date.day, weekday)
+}
+
+fn put_refusal(out: &mut [u8], at: usize, why: Refusal) -> usize
+    requires { ⌜ at + 132 ≤ length (now out) ⌝ }
+    ensures { λ r. ⌜ LineOf (Refused why) (now (out .entry)) at (now (out .exit)) r ⌝ }
+{
+    let mark = put_byte(out, at, 33);
+    let number = put_byte(out, mark, 9);
+    let place = put_count(out, number, why.number as u64, 9);
+    let value = put_count(out, place, why.place as u64, 9);
+    put_whole(out, value, why.value, 10)
+}
+
+fn put_answer(out: &mut [u8], at: usize, answer: Dated) -> usize
+    requires { ⌜ at + 132 ≤ length (now out) ⌝ }
+    ensures { λ r. ⌜ LineOf answer (now (out .entry)) at (now (out .exit)) r ⌝ }
+{
+    match answer {
+        Dated::Date(date) => put_date(out, at, date),
+        Dated::Refused(why) => put_refusal(out, at, why),
+    }
+}
+
+// ---- texts with or without room for them
+
+// All of a text.
+fn put_bytes(out: &mut [u8], at: usize, text: &[u8]) -> usize
+    requires { ⌜ at + length (now text) ≤ length (now out) ⌝ }
+    ensures { λ r. ⌜ So (now (out .entry)) at (now (text .entry)) (now (out .exit)) r ⌝ }
+{
+    let mut i: usize = 0;
+    while i < text.len() {
+        out[at + i] = text[i];
+        i += 1;
+    }
+    at + text.len()
+}
+
+// Where room is not sure, the text is made apart first, so that a buffer too short for it stays as it was.
+fn put_apart(out: &mut [u8], at: usize, answer: Dated) -> Written
+    ensures { λ r. ⌜ Writes (LineOut answer) (now (out .entry)) at (now (out .exit)) r ⌝ }
+{
+    let mut apart = [0u8; 132];
+    let size = put_answer(&mut apart, 0, answer);
+    if datetext::has_room(out.len(), at, size) {
+        let end = put_bytes(out, at, &apart[..size]);
+        return Written::Done(end);
+    }
+    Written::Refused(numbertext::refusal(18, 0, size as u32))
+}
+
+// The line of an answer, with its newline.
+pub fn put_line(out: &mut [u8], at: usize, answer: Dated) -> Written
+    ensures { λ r. ⌜ Writes (LineOut answer) (now (out .entry)) at (now (out .exit)) r ⌝ }
+{
+    if datetext::has_room(out.len(), at, 132) {
+        let end = put_answer(out, at, answer);
+        return Written::Done(end);
+    }
+    put_apart(out, at, answer)
+}
+
+// Whether a text had room.
+pub enum Copied {
+    To(usize),
+    NoRoom,
+}
+
+// Bytes as they stand: the answer tells the place after them.
+pub fn copy_text(out: &mut [u8], at: usize, text: &[u8]) -> Copied
+    ensures { λ r. ⌜ Copies (now (text .entry)) (now (out .entry)) at (now (out .exit)) r ⌝ }
+{
+    if datetext::has_room(out.len(), at, text.len()) {
+        let end = put_bytes(out, at, text);
+        return Copied::To(end);
+    }
+    Copied::NoRoom
+}
