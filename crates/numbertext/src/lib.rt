@@ -2,11 +2,11 @@
 // Each call answers for any bytes and any place.
 
 ghost use mathlib.Core.Path.{_≡_};
-ghost use Prim.Native.Nat.{_<_, _^_};
-ghost use lib.ListN.{drop};
+ghost use Prim.Native.Nat.{_+_, _<_, _^_};
+ghost use lib.ListN.{length, drop};
 ghost use lib.IntN.{pos};
 ghost use Rattle.numbertext.specs.Numerals.{refusal as refusalOf};
-ghost use Rattle.numbertext.specs.Promise.{NumberAt, SignedAt, DashAt, EndAt, afterNumber, afterSigned, afterDash, Moves};
+ghost use Rattle.numbertext.specs.Promise.{NumberAt, SignedAt, DashAt, EndAt, DigitAt, PairAt, afterNumber, afterSigned, afterDash, Moves};
 ghost use Rattle.numbertext.specs.Reading.{isDigit, runOf, endsOf, endedAt, signedRun, limitOf};
 use calendar::Refusal;
 use whole::Narrowed;
@@ -195,6 +195,33 @@ pub fn end_at(s: &[u8], at: usize) -> End
         return End::Reached;
     }
     End::Refused(byte_refusal(14, at, s[at]))
+}
+
+// ---- one digit and two, where it is known that so many bytes are there
+
+// The digit at a place, or more than 9 where another byte stands there.
+pub fn digit_at(s: &[u8], at: usize) -> u32
+    requires { ⌜ at < length (now s) ⌝ }
+    ensures { λ r. ⌜ DigitAt (now (s .entry)) at r ⌝ }
+{
+    let b = s[at];
+    std::num::wrapping_sub_u32(b as u32, 48)
+}
+
+// The number that two digits write, or 100 where one of the two bytes is no digit.
+pub fn pair_at(s: &[u8], at: usize) -> u32
+    requires { ⌜ at + 1 < length (now s) ⌝ }
+    ensures { λ r. ⌜ PairAt (now (s .entry)) at r ⌝ }
+{
+    let tens = digit_at(s, at);
+    if 9 < tens {
+        return 100;
+    }
+    let ones = digit_at(s, at + 1);
+    if 9 < ones {
+        return 100;
+    }
+    tens * 10 + ones
 }
 
 // ---- a reader that holds the bytes and how far it has read
