@@ -12,10 +12,9 @@ use lib.Dec.{leb}
 use borrow.Author.Tests.{lt-ltb, leb-true}
 use Rattle.whole.specs.Biased.{unbias, unbias-above}
 use Rattle.numbertext.specs.Numerals.{dash}
-use Rattle.numbertext.specs.Promise.{DigitIs, PairIs, PairAt}
-use Rattle.numbertext.specs.Reading.{theNumber, theSigned}
+use Rattle.numbertext.specs.Reading.{theNumber, theSigned, pairOf}
 use Rattle.numbertext.specs.Digits.{pick-yes, both, front-end, dash-yes, end-reached}
-use Rattle.numbertext.specs.Few.{digit-front, pair-front, dash-front, number-of, signed-of}
+use Rattle.numbertext.specs.Few.{DigitIs, PairIs, pair-seen, digit-front, pair-front, dash-front, number-of, signed-of}
 use Rattle.numbertext.specs.declared.Number.{Number}
 use Rattle.numbertext.specs.declared.SignedNumber.{SignedNumber}
 use Rattle.datetext.specs.Reading.{isMonth, toYmd, afterDay, afterMonth, afterSecond, afterDash, afterYear, readText}
@@ -63,13 +62,13 @@ module _ (s : List ℕ) (k : ℕ) (h : k < length s) (d : getD s k 0 ≡ dash) w
 pub four-digits : (s : List ℕ) {high low : ℕ} → 4 < length s → getD s 4 0 ≡ dash → PairIs s 0 high → PairIs s 2 low → YearRead s (high * 100 + low) 5
 four-digits s h d a b =
     year-by s 4 h d (omega (arith, a .is, b .is, a .tens .high, a .ones .high, b .tens .high, b .ones .high))
-    (signed-of s _ (omega arith) (a .tens) (pair-front a (omega arith) (pair-front b (omega arith) (dash-front s 4 h d))) (omega arith) (omega (arith, a .is, b .is)) refl
+    (signed-of s _ (omega arith) (a .tens) (pair-front a (pair-front b (dash-front s 4 h d))) (omega arith) (omega (arith, a .is, b .is)) refl
     (omega (arith, a .is, b .is, a .tens .high, a .ones .high, b .tens .high, b .ones .high)))
 
 pub three-digits : (s : List ℕ) {high low : ℕ} → 3 < length s → getD s 3 0 ≡ dash → DigitIs s 0 high → PairIs s 1 low → YearRead s (high * 100 + low) 4
 three-digits s h d a b =
     year-by s 3 h d (omega (arith, a .is, b .is, a .digit .high, b .tens .high, b .ones .high))
-    (signed-of s _ (omega arith) (a .digit) (digit-front a (omega arith) (pair-front b (omega arith) (dash-front s 3 h d))) (omega arith) (omega (arith, a .is, b .is)) refl
+    (signed-of s _ (omega arith) (a .digit) (digit-front a (pair-front b (dash-front s 3 h d))) (omega arith) (omega (arith, a .is, b .is)) refl
     (omega (arith, a .is, b .is, a .digit .high, b .tens .high, b .ones .high)))
 
 -- a year that is raised and lowered again
@@ -82,16 +81,16 @@ month-small : (m : ℕ) → isMonth m ≡ true → m < 100
 month-small m i = omega (arith, leb-true m 12 (both (leb 1 m) (leb m 12) i .1))
 
 module _ (s : List ℕ) {at m : ℕ} (i : isMonth m ≡ true) where
-  pub two-digit-month : at + 2 < length s → getD s (at + 2) 0 ≡ dash → PairAt s at m → MonthRead s at m (at + 3)
+  pub two-digit-month : at + 2 < length s → getD s (at + 2) 0 ≡ dash → m ≡ pairOf s at → MonthRead s at m (at + 3)
   two-digit-month h d p =
-      let a = p (month-small m i) in
+      let a = pair-seen s at p (month-small m i) in
       month-by s (at + 2) h d (omega arith) i
-      (number-of s at _ (pair-front a (omega arith) (dash-front s (at + 2) h d)) (omega arith) (omega (arith, a .is)) (omega arith) (omega (arith, a .is, a .tens .high, a .ones .high)))
+      (number-of s at _ (pair-front a (dash-front s (at + 2) h d)) (omega arith) (omega (arith, a .is)) (omega arith) (omega (arith, a .is, a .tens .high, a .ones .high)))
 
   pub one-digit-month : at + 1 < length s → getD s (at + 1) 0 ≡ dash → DigitIs s at m → MonthRead s at m (at + 2)
   one-digit-month h d a =
       month-by s (at + 1) h d (omega arith) i
-      (number-of s at _ (digit-front a (omega arith) (dash-front s (at + 1) h d)) (omega arith) (omega (arith, a .is)) (omega arith) (omega (arith, a .is, a .digit .high)))
+      (number-of s at _ (digit-front a (dash-front s (at + 1) h d)) (omega arith) (omega (arith, a .is)) (omega arith) (omega (arith, a .is, a .digit .high)))
 
 -- ---- days, which end the text
 
@@ -102,9 +101,9 @@ module _ (s : List ℕ) {at n : ℕ} where
   pub two-digit-day : at + 2 ≡ length s → PairIs s at n → DayRead s at n (at + 2)
   two-digit-day h a =
       day-by s h
-      (number-of s at _ (pair-front a (omega arith) (front-end s (at + 2) (omega arith))) (omega arith) (omega (arith, a .is)) (omega arith) (omega (arith, a .is, a .tens .high, a .ones .high)))
+      (number-of s at _ (pair-front a (front-end s (at + 2) (omega arith))) (omega arith) (omega (arith, a .is)) (omega arith) (omega (arith, a .is, a .tens .high, a .ones .high)))
 
   pub one-digit-day : at + 1 ≡ length s → DigitIs s at n → DayRead s at n (at + 1)
   one-digit-day h a =
       day-by s h
-      (number-of s at _ (digit-front a (omega arith) (front-end s (at + 1) (omega arith))) (omega arith) (omega (arith, a .is)) (omega arith) (omega (arith, a .is, a .digit .high)))
+      (number-of s at _ (digit-front a (front-end s (at + 1) (omega arith))) (omega arith) (omega (arith, a .is)) (omega arith) (omega (arith, a .is, a .digit .high)))

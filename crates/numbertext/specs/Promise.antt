@@ -1,13 +1,13 @@
 -- What the public functions promise: of a read at a place of the bytes, and of a reader that goes along them.
 -- Assumes nothing.
-use Prim.Native.Nat.{ℕ, _+_, _-_, _*_, _≤_, _<_}
+use Prim.Native.Nat.{ℕ, _+_, _≤_, _<_}
 use mathlib.Core.Path.{_≡_}
 use mathlib.Core.List.{List, [], _∷_, _++_}
-use lib.ListN.{length, drop, getD}
+use lib.ListN.{length, drop}
 use lib.IntN.{ℤ, pos}
 use denote.Ref.{now}
 use Rattle.calendar.specs.declared.Refusal.{Refusal}
-use Rattle.numbertext.specs.Numerals.{dash, refusal, Digit, Unsigned, Signed, Stops, NoNumber, NoSigned, NoDash}
+use Rattle.numbertext.specs.Numerals.{dash, refusal, Unsigned, Signed, Stops, NoNumber, NoSigned, NoDash}
 use Rattle.numbertext.specs.declared.Number.{Number}
 use Rattle.numbertext.specs.declared.SignedNumber.{SignedNumber}
 use Rattle.numbertext.specs.declared.Dash.{Dash}
@@ -52,24 +52,6 @@ DashAt = At Dash.Refused DashFrom
 
 abbrev pub EndAt : List ℕ → ℕ → End → Type 0
 EndAt = At End.Refused EndFrom
-
--- ---- one digit and two at a place, where so many bytes are there
-
-pub record DigitIs (s : List ℕ) (at r : ℕ) : Type 0 where
-  pub digit : Digit (getD s at 0)
-  pub is : r ≡ getD s at 0 - 48
-
-pub record PairIs (s : List ℕ) (at r : ℕ) : Type 0 where
-  pub tens : Digit (getD s at 0)
-  pub ones : Digit (getD s (at + 1) 0)
-  pub is : r ≡ (getD s at 0 - 48) * 10 + (getD s (at + 1) 0 - 48)
-
--- a number that is too great says nothing of the bytes
-abbrev pub DigitAt : List ℕ → ℕ → ℕ → Type 0
-DigitAt s at r = r < 10 → DigitIs s at r
-
-abbrev pub PairAt : List ℕ → ℕ → ℕ → Type 0
-PairAt s at r = r < 100 → PairIs s at r
 
 -- ---- a reader
 

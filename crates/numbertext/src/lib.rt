@@ -2,12 +2,12 @@
 // Each call answers for any bytes and any place.
 
 ghost use mathlib.Core.Path.{_≡_};
-ghost use Prim.Native.Nat.{_+_, _<_, _^_};
-ghost use lib.ListN.{length, drop};
+ghost use Prim.Native.Nat.{_<_, _^_};
+ghost use lib.ListN.{drop};
 ghost use lib.IntN.{pos};
 ghost use Rattle.numbertext.specs.Numerals.{refusal as refusalOf};
-ghost use Rattle.numbertext.specs.Promise.{NumberAt, SignedAt, DashAt, EndAt, DigitAt, PairAt, afterNumber, afterSigned, afterDash, Moves};
-ghost use Rattle.numbertext.specs.Reading.{isDigit, runOf, endsOf, endedAt, signedRun, limitOf};
+ghost use Rattle.numbertext.specs.Promise.{NumberAt, SignedAt, DashAt, EndAt, afterNumber, afterSigned, afterDash, Moves};
+ghost use Rattle.numbertext.specs.Reading.{isDigit, digitOf, pairOf, runOf, endsOf, endedAt, signedRun, limitOf};
 use calendar::Refusal;
 use whole::Narrowed;
 
@@ -197,21 +197,26 @@ pub fn end_at(s: &[u8], at: usize) -> End
     End::Refused(byte_refusal(14, at, s[at]))
 }
 
-// ---- one digit and two, where it is known that so many bytes are there
+// ---- one digit and two, without a refusal: for a reader that goes the long way where they do not stand
 
-// The digit at a place, or more than 9 where another byte stands there.
+// The digit at a place, or 10 where none stands there. Below `0` the difference wraps, so that one test tells a digit.
 pub fn digit_at(s: &[u8], at: usize) -> u32
-    requires { ⌜ at < length (now s) ⌝ }
-    ensures { λ r. ⌜ DigitAt (now (s .entry)) at r ⌝ }
+    ensures { λ r. ⌜ r ≡ digitOf (now (s .entry)) at ⌝ }
 {
+    if s.len() <= at {
+        return 10;
+    }
     let b = s[at];
-    std::num::wrapping_sub_u32(b as u32, 48)
+    let d = std::num::wrapping_sub_u32(b as u32, 48);
+    if d < 10 {
+        return d;
+    }
+    10
 }
 
-// The number that two digits write, or 100 where one of the two bytes is no digit.
+// The number that two digits write, or 100 where one of the two does not stand there.
 pub fn pair_at(s: &[u8], at: usize) -> u32
-    requires { ⌜ at + 1 < length (now s) ⌝ }
-    ensures { λ r. ⌜ PairAt (now (s .entry)) at r ⌝ }
+    ensures { λ r. ⌜ r ≡ pairOf (now (s .entry)) at ⌝ }
 {
     let tens = digit_at(s, at);
     if 9 < tens {

@@ -1,6 +1,7 @@
 -- `datetext::usual_day` meets its contract: what is left of the text are the digits of the day.
 -- Assumes nothing.
 use native.Mathlib.Omega.{arith}
+use Rattle.numbertext.specs.Few.{digit-seen, pair-seen}
 use Rattle.datetext.specs.Usual.{IfAt, two-digit-day, one-digit-day}
 use borrow.Author.Needs.{needs}
 use Rattle.datetext.proofs.usual_day.Statement.{statement}
@@ -16,7 +17,7 @@ add-t9 : tie.Need-add-t9
 add-t9 c = search needs
 
 returns : tie.Need-returns
-returns c = IfAt.found (two-digit-day _ (omega arith) (c .before .pair-at .ensures (c .if2 .taken)))
+returns c = IfAt.found (two-digit-day _ (omega arith) (pair-seen _ _ (c .before .pair-at .ensures) (c .if2 .taken)))
 
 returns-2 : tie.Need-returns-2
 returns-2 c = IfAt.other
@@ -28,7 +29,7 @@ add-t11 : tie.Need-add-t11
 add-t11 c = search needs
 
 returns-3 : tie.Need-returns-3
-returns-3 c = IfAt.found (one-digit-day _ (omega arith) (c .before .digit-at .ensures (c .if4 .taken)))
+returns-3 c = IfAt.found (one-digit-day _ (omega arith) (digit-seen _ _ (c .before .digit-at .ensures) (c .if4 .taken)))
 
 returns-4 : tie.Need-returns-4
 returns-4 c = IfAt.other

@@ -2,6 +2,7 @@
 -- Assumes nothing.
 use mathlib.Core.Path.{sym, _∙_}
 use native.Mathlib.Omega.{arith}
+use Rattle.numbertext.specs.Few.{digit-seen}
 use Rattle.datetext.specs.Usual.{IfAt, two-digit-month, one-digit-month}
 use borrow.Author.Needs.{needs}
 use Rattle.datetext.proofs.usual_month.Statement.{statement}
@@ -57,7 +58,7 @@ add-t15 c = search needs
 returns-5 : tie.Need-returns-5
 returns-5 c =
     let d = c .before .before .before in
-    IfAt.found (one-digit-month _ (sym (c .before .is-month2 .ensures) ∙ c .if6 .taken) (omega arith) (d .before .if4 .taken) (d .digit-at .ensures (omega arith)))
+    IfAt.found (one-digit-month _ (sym (c .before .is-month2 .ensures) ∙ c .if6 .taken) (omega arith) (d .before .if4 .taken) (digit-seen _ _ (d .digit-at .ensures) (omega arith)))
 
 returns-6 : tie.Need-returns-6
 returns-6 c = IfAt.other

@@ -1,6 +1,7 @@
 -- `datetext::usual_year` meets its contract: the digits before the dash are those of the year.
 -- Assumes nothing.
 use native.Mathlib.Omega.{arith}
+use Rattle.numbertext.specs.Few.{digit-seen, pair-seen}
 use Rattle.datetext.specs.Usual.{IfAt, four-digits, three-digits}
 use borrow.Author.Needs.{needs}
 use Rattle.datetext.proofs.usual_year.Statement.{statement}
@@ -33,7 +34,7 @@ add-t12 c = search needs
 returns-4 : tie.Need-returns-4
 returns-4 c =
     let y = c .before .before .before in
-    IfAt.found (four-digits _ (omega arith) (y .before .if2 .taken) (y .pair-at .ensures (omega arith)) (c .before .pair-at2 .ensures (omega arith)))
+    IfAt.found (four-digits _ (omega arith) (y .before .if2 .taken) (pair-seen _ _ (y .pair-at .ensures) (omega arith)) (pair-seen _ _ (c .before .pair-at2 .ensures) (omega arith)))
 
 shared-slice-read-if5 : tie.Need-shared-slice-read-if5
 shared-slice-read-if5 c = search needs
@@ -59,7 +60,7 @@ add-t16 c = search needs
 returns-7 : tie.Need-returns-7
 returns-7 c =
     let y = c .before .before .before in
-    IfAt.found (three-digits _ (omega arith) (y .before .if5 .taken) (y .digit-at .ensures (omega arith)) (c .before .pair-at3 .ensures (omega arith)))
+    IfAt.found (three-digits _ (omega arith) (y .before .if5 .taken) (digit-seen _ _ (y .digit-at .ensures) (omega arith)) (pair-seen _ _ (c .before .pair-at3 .ensures) (omega arith)))
 
 returns-8 : tie.Need-returns-8
 returns-8 c = IfAt.other
