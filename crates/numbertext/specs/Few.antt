@@ -6,13 +6,13 @@ use mathlib.Core.Bool.{Bool, true, false}
 use mathlib.Core.List.{List, [], _∷_}
 use native.Mathlib.Omega.{arith}
 use lib.ListN.{length, getD, drop}
-use lib.Dec.{ltb}
+use lib.Dec.{ltb, leb}
 use lib.IntN.{pos}
-use borrow.Author.Tests.{lt-ltb, le-ltb, ltb-true, ltb-false}
+use borrow.Author.Tests.{lt-ltb, le-ltb, ltb-true, ltb-false, leb-true, leb-false}
 use Rattle.whole.specs.Edge.{signedOf}
 use Rattle.numbertext.specs.Numerals.{dash, valueOf, Digit}
-use Rattle.numbertext.specs.Reading.{pick, isDigit, front, runFrom, theNumber, theSigned, digitOf, pairValue, pairOf}
-use Rattle.numbertext.specs.Digits.{pick-yes, pick-no, digit-is, is-digit, not-digit, front-more, front-stop, run-value, number-value, signed-plain, signed-as}
+use Rattle.numbertext.specs.Reading.{pick, front, runFrom, theNumber, theSigned, digitOf, pairValue, pairOf}
+use Rattle.numbertext.specs.Digits.{pick-yes, pick-no, is-digit, not-digit, front-more, front-stop, run-value, number-value, signed-plain, signed-as}
 use Rattle.numbertext.specs.declared.Number.{Number}
 use Rattle.numbertext.specs.declared.SignedNumber.{SignedNumber}
 
@@ -30,32 +30,29 @@ pub record PairIs (s : List ℕ) (at r : ℕ) : Type 0 where
   pub ones : Digit (getD s (at + 1) 0)
   pub is : r ≡ (getD s at 0 - 48) * 10 + (getD s (at + 1) 0 - 48)
 
--- what is computed, by the byte at the place; d is the difference of the byte and '0', which wraps
 module _ (s : List ℕ) (at : ℕ) where
   pub digit-past : length s ≤ at → 10 ≡ digitOf s at
   unfolding digitOf
   digit-past h = sym (pick-no _ _ (le-ltb _ _ h))
 
-  module _ (h : at < length s) (d : ℕ) (e : (d + 48) % 2 ^ 32 ≡ getD s at 0) where
-    pub digit-yes : d < 10 → d ≡ digitOf s at
-    unfolding digitOf
-    digit-yes k =
-        let b : getD s at 0 ≡ d + 48 = omega arith in
-        let i : isDigit (getD s at 0) ≡ true = is-digit {b = getD s at 0} (record { low = omega arith; high = omega arith }) in
-        let v : d ≡ getD s at 0 - 48 = omega arith in
-        v ∙ sym (pick-yes _ _ (lt-ltb _ _ h) ∙ pick-yes _ _ i)
-
-    pub digit-no : d < 2 ^ 32 → 10 ≤ d → 10 ≡ digitOf s at
-    unfolding digitOf
-    digit-no f k = sym (pick-yes _ _ (lt-ltb _ _ h) ∙ pick-no _ _ (not-digit (getD s at 0) (λ q. omega (arith, q .low, q .high))))
+  -- d is the byte less 48, as the machine computes it
+  pub digit-here : at < length s → (d : ℕ) → (d + 48) % 2 ^ 32 ≡ getD s at 0 → d < 2 ^ 32 → d ≡ digitOf s at
+  unfolding digitOf
+  digit-here h d e f = go (leb 48 (getD s at 0)) refl ∙ sym (pick-yes _ _ (lt-ltb _ _ h))
+    where
+      go : (t : Bool) → leb 48 (getD s at 0) ≡ t → d ≡ pick t (getD s at 0 - 48) (getD s at 0 + 4294967248)
+      go true k = omega (arith, leb-true 48 (getD s at 0) k)
+      go false k = omega (arith, leb-false 48 (getD s at 0) k)
 
 module _ (s : List ℕ) (at : ℕ) {a : ℕ} (p : a ≡ digitOf s at) where
   pub digit-seen : a < 10 → DigitIs s at a
   unfolding digitOf
-  digit-seen h = go (ltb at (length s)) (isDigit (getD s at 0)) refl refl p
+  digit-seen h = go (ltb at (length s)) (leb 48 (getD s at 0)) refl refl p
     where
-      go : (t u : Bool) → ltb at (length s) ≡ t → isDigit (getD s at 0) ≡ u → a ≡ pick t (pick u (getD s at 0 - 48) 10) 10 → DigitIs s at a
-      go true true w i e = record { within = ltb-true at (length s) w; digit = digit-is (getD s at 0) i; is = e }
+      go : (t u : Bool) → ltb at (length s) ≡ t → leb 48 (getD s at 0) ≡ u → a ≡ pick t (pick u (getD s at 0 - 48) (getD s at 0 + 4294967248)) 10 → DigitIs s at a
+      go true true w i e =
+          let low : 48 ≤ getD s at 0 = leb-true 48 (getD s at 0) i in
+          record { within = ltb-true at (length s) w; digit = record { low = low; high = omega arith }; is = e }
       go true false w i e = absurd (omega arith)
       go false u w i e = absurd (omega arith)
 

@@ -108,14 +108,17 @@ readEnd at (b ∷ u) = End.Refused (refusal 14 at (pos b))
 abbrev pub theEnd : List ℕ → ℕ → End
 theEnd s at = placed End.Refused readEnd s at
 
--- ---- one digit, or 10 where none stands at the place; and two, or 100
+-- ---- one digit, and two
 
+-- a byte less 48, which wraps in 32 bits: below 10 exactly for a digit
 abbrev pub digitValue : ℕ → ℕ
-digitValue b = pick (isDigit b) (b - 48) 10
+digitValue b = pick (leb 48 b) (b - 48) (b + 4294967248)
 
+-- 10 where the bytes end
 unfoldable pub digitOf : List ℕ → ℕ → ℕ
 digitOf s at = pick (ltb at (length s)) (digitValue (getD s at 0)) 10
 
+-- 100 where they are not two digits
 abbrev pub pairValue : ℕ → ℕ → ℕ
 pairValue a b = pick (ltb 9 a) 100 (pick (ltb 9 b) 100 (a * 10 + b))
 

@@ -199,7 +199,8 @@ pub fn end_at(s: &[u8], at: usize) -> End
 
 // ---- one digit and two, without a refusal: for a reader that goes the long way where they do not stand
 
-// The digit at a place, or 10 where none stands there. Below `0` the difference wraps, so that one test tells a digit.
+// The byte at a place less 48, which is `0`; below that it wraps. So it is below 10 exactly where a digit stands there, and one test tells.
+// 10 where the bytes end.
 pub fn digit_at(s: &[u8], at: usize) -> u32
     ensures { λ r. ⌜ r ≡ digitOf (now (s .entry)) at ⌝ }
 {
@@ -207,11 +208,7 @@ pub fn digit_at(s: &[u8], at: usize) -> u32
         return 10;
     }
     let b = s[at];
-    let d = std::num::wrapping_sub_u32(b as u32, 48);
-    if d < 10 {
-        return d;
-    }
-    10
+    std::num::wrapping_sub_u32(b as u32, 48)
 }
 
 // The number that two digits write, or 100 where one of the two does not stand there.

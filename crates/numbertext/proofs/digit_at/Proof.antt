@@ -1,7 +1,7 @@
--- `numbertext::digit_at` meets its contract: a difference below 10 did not wrap, and one that wrapped is not below 10.
+-- `numbertext::digit_at` meets its contract: the difference wraps as `digitValue` does.
 -- Assumes nothing.
 use native.Mathlib.Omega.{arith}
-use Rattle.numbertext.specs.Few.{digit-past, digit-yes, digit-no}
+use Rattle.numbertext.specs.Few.{digit-past, digit-here}
 use borrow.Author.Needs.{needs}
 use Rattle.numbertext.proofs.digit_at.Statement.{statement}
 use Rattle.numbertext.proofs.digit_at.Tie as tie
@@ -19,18 +19,9 @@ wrapping-sub-u32-requires : tie.Need-wrapping-sub-u32-requires
 wrapping-sub-u32-requires c κs = search needs
 
 returns-2 : tie.Need-returns-2
-returns-2 c = digit-yes _ _ (c .before .before .before .if1 .left) _ (c .before .wrapping-sub-u32 .ensures) (c .if2 .taken)
-
-returns-3 : tie.Need-returns-3
-returns-3 c = digit-no _ _ (c .before .before .before .if1 .left) _ (c .before .wrapping-sub-u32 .ensures) (c .before .wrapping-sub-u32 .ok) (c .if2 .left)
+returns-2 c = digit-here _ _ (c .before .before .if1 .left) _ (c .wrapping-sub-u32 .ensures) (c .wrapping-sub-u32 .ok)
 
 pub digit-at-spec : {M : Type 1} → statement M
 digit-at-spec =
     tie.close
-    (tie.spec
-    returns
-    shared-slice-read-b
-    cast-wrapping-sub-u32
-    wrapping-sub-u32-requires
-    returns-2
-    returns-3)
+    (tie.spec returns shared-slice-read-b cast-wrapping-sub-u32 wrapping-sub-u32-requires returns-2)
