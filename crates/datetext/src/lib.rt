@@ -118,7 +118,7 @@ fn any_date(text: &[u8]) -> Text
 // ---- reading the usual text: a year of three or four digits, a month and a day of one or two. Most texts are so, and are read without the
 // questions that only the others need. `Other` says nothing of a text: from there on it is read as any text is
 
-// A number that stands where it is looked for, and the place after it and its `-`.
+// A number that stands where it is looked for, and the place after it, and after the `-` that a year or a month has.
 enum Part {
     At(u32, usize),
     Other,

@@ -204,7 +204,7 @@ pub fn end_at(s: &[u8], at: usize) -> End
 pub fn digit_at(s: &[u8], at: usize) -> u32
     ensures { λ r. ⌜ r ≡ digitOf (now (s .entry)) at ⌝ }
 {
-    if s.len() <= at {
+    if at >= s.len() {
         return 10;
     }
     let b = s[at];
