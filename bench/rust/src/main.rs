@@ -23,7 +23,7 @@ fn prepare(calendar: &Calendar) -> Inputs {
     Inputs {
         jdns: dates.iter().map(|d| d.julian_day_number()).collect(),
         labels: dates.iter().map(|d| (d.year(), d.month(), d.day())).collect(),
-        texts: dates.iter().map(|d| format!("{}-{}-{}", d.year(), d.month().number(), d.day())).collect(),
+        texts: dates.iter().map(|d| format!("{:04}-{:02}-{:02}", d.year(), d.month().number(), d.day())).collect(),
         dates,
     }
 }

@@ -54,19 +54,40 @@ fn put_counts(counts: &mut [u32], i: usize, d: Date)
     set_count(counts, 8 * i + 3, d.day_ordinal);
 }
 
-fn text_size(d: Date, text: &mut [u8]) -> u32 {
-    match datetext::write_ymd(text, d.year, d.month, d.day) {
-        datetext::Written::Done(n) => (n % 16) as u32,
-        datetext::Written::Refused(_) => 0,
+fn set_byte(text: &mut [u8], at: usize, b: u8) {
+    if at < text.len() {
+        text[at] = b;
     }
 }
 
+// The last two digits of n, at a place of a text.
+fn put_two(text: &mut [u8], at: usize, n: u32)
+    requires { ⌜ at < 16 ⌝ }
+{
+    set_byte(text, at, (48 + n / 10 % 10) as u8);
+    set_byte(text, at + 1, (48 + n % 10) as u8);
+}
+
+// The date as ten bytes, padded with zeros, as in 0901-03-05: all years here are below 10000, and 6352 more make a raised year end in the
+// year's last four digits.
+fn put_padded(text: &mut [u8], d: Date) {
+    let year = ((whole::raised(d.year) as u64 + 6352) % 10_000) as u32;
+    put_two(text, 0, year / 100);
+    put_two(text, 2, year);
+    set_byte(text, 4, 45);
+    put_two(text, 5, d.month);
+    set_byte(text, 7, 45);
+    put_two(text, 8, d.day);
+}
+
+// The length stands beside the text, so that the compiler does not know it.
 fn put_text(texts: &mut [u8], i: usize, d: Date) -> u32
     requires { ⌜ (i < 4096) × (length (now texts) ≡ 65536) ⌝ }
 {
     let start = 16 * i;
     let end = 16 * i + 16;
-    text_size(d, &mut texts[start..end])
+    put_padded(&mut texts[start..end], d);
+    10
 }
 
 fn put(signs: &mut [i32], counts: &mut [u32], texts: &mut [u8], i: usize, d: Date)

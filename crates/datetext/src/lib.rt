@@ -9,6 +9,7 @@ ghost use Rattle.numbertext.specs.Numerals.{dash};
 ghost use Rattle.numbertext.specs.Reading.{theNumber, theDash};
 ghost use Rattle.datetext.specs.Grammar.{ReadDate};
 ghost use Rattle.datetext.specs.Reading.{isMonth, afterDay, afterMonth, afterSecond, afterDash};
+ghost use Rattle.datetext.specs.Usual.{IfAt, YearRead, MonthRead, DayRead};
 ghost use Rattle.datetext.specs.Writing.{Writes, PutNumber, PutWhole, WriteYmd};
 ghost use Rattle.datetext.specs.Decimals.{digitsOf, Width};
 ghost use Rattle.datetext.specs.Puts.{So, wholeText, wholeWidth, ymdText, Signs};
@@ -104,12 +105,130 @@ fn year_on(text: &[u8], year: i32, at: usize) -> Text
     }
 }
 
-pub fn read_date(text: &[u8]) -> Text
+// The text part by part, from its front on.
+fn any_date(text: &[u8]) -> Text
     ensures { λ r. ⌜ ReadDate (now (text .entry)) r ⌝ }
 {
     match numbertext::signed_at(text, 0) {
         SignedNumber::Refused(f) => Text::Refused(f),
         SignedNumber::Value(year, next) => year_on(text, year, next),
+    }
+}
+
+// ---- reading the usual text: a year of three or four digits, a month and a day of one or two. Most texts are so, and are read without the
+// questions that only the others need. `Other` says nothing of a text: from there on it is read as any text is
+
+// A number that stands where it is looked for, and the place after it, and after the `-` that a year or a month has.
+enum Part {
+    At(u32, usize),
+    Other,
+}
+
+fn usual_year(text: &[u8]) -> Part
+    ensures { λ r. ⌜ IfAt (YearRead (now (text .entry))) r ⌝ }
+{
+    if text.len() < 5 {
+        return Part::Other;
+    }
+    if text[4] == 45 {
+        let high = numbertext::pair_at(text, 0);
+        if 99 < high {
+            return Part::Other;
+        }
+        let low = numbertext::pair_at(text, 2);
+        if 99 < low {
+            return Part::Other;
+        }
+        return Part::At(high * 100 + low, 5);
+    }
+    if text[3] == 45 {
+        let high = numbertext::digit_at(text, 0);
+        if 9 < high {
+            return Part::Other;
+        }
+        let low = numbertext::pair_at(text, 1);
+        if 99 < low {
+            return Part::Other;
+        }
+        return Part::At(high * 100 + low, 4);
+    }
+    Part::Other
+}
+
+// The month is to stand at `at`.
+fn usual_month(text: &[u8], at: usize) -> Part
+    requires { ⌜ at ≤ length (now text) ⌝ }
+    ensures { λ r. ⌜ IfAt (MonthRead (now (text .entry)) at) r ⌝ }
+{
+    if text.len() - at < 3 {
+        return Part::Other;
+    }
+    if text[at + 2] == 45 {
+        let month = numbertext::pair_at(text, at);
+        if is_month(month) {
+            return Part::At(month, at + 3);
+        }
+        return Part::Other;
+    }
+    if text[at + 1] == 45 {
+        let month = numbertext::digit_at(text, at);
+        if 9 < month {
+            return Part::Other;
+        }
+        if is_month(month) {
+            return Part::At(month, at + 2);
+        }
+    }
+    Part::Other
+}
+
+// The day is to stand at `at` and to end the text.
+fn usual_day(text: &[u8], at: usize) -> Part
+    requires { ⌜ at ≤ length (now text) ⌝ }
+    ensures { λ r. ⌜ IfAt (DayRead (now (text .entry)) at) r ⌝ }
+{
+    let left = text.len() - at;
+    if left == 2 {
+        let day = numbertext::pair_at(text, at);
+        if day < 100 {
+            return Part::At(day, at + 2);
+        }
+        return Part::Other;
+    }
+    if left == 1 {
+        let day = numbertext::digit_at(text, at);
+        if day < 10 {
+            return Part::At(day, at + 1);
+        }
+    }
+    Part::Other
+}
+
+// A text that is no usual one from some part on is read part by part from there.
+fn usual_on(text: &[u8], year: i32, at: usize) -> Text
+    requires { ⌜ at ≤ length (now text) ⌝ }
+    ensures { λ r. ⌜ r ≡ afterSecond (now (text .entry)) year at (theNumber (now (text .entry)) at) ⌝ }
+{
+    match usual_month(text, at) {
+        Part::Other => second_on(text, year, at),
+        Part::At(month, third) => match usual_day(text, third) {
+            Part::Other => day_on(text, year, month, third),
+            Part::At(day, _) => Text::Ymd {
+                year,
+                month,
+                day,
+                place: third,
+            },
+        },
+    }
+}
+
+pub fn read_date(text: &[u8]) -> Text
+    ensures { λ r. ⌜ ReadDate (now (text .entry)) r ⌝ }
+{
+    match usual_year(text) {
+        Part::Other => any_date(text),
+        Part::At(year, second) => usual_on(text, whole::lowered(2_147_483_648 + year), second),
     }
 }
 

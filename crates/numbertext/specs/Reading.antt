@@ -1,9 +1,9 @@
 -- What is found at a place of a list of bytes, by computing, in the order of the code. `Meaning` shows that this is what `Numerals` says.
 -- Assumes nothing.
-use Prim.Native.Nat.{ℕ, _+_}
+use Prim.Native.Nat.{ℕ, _+_, _-_, _*_}
 use mathlib.Core.List.{List, [], _∷_}
 use mathlib.Core.Bool.{Bool, true, false}
-use lib.ListN.{length, drop}
+use lib.ListN.{length, drop, getD}
 use lib.Dec.{ltb, leb, eqb}
 use lib.IntN.{pos}
 use Rattle.calendar.specs.declared.Refusal.{Refusal}
@@ -107,3 +107,20 @@ readEnd at (b ∷ u) = End.Refused (refusal 14 at (pos b))
 
 abbrev pub theEnd : List ℕ → ℕ → End
 theEnd s at = placed End.Refused readEnd s at
+
+-- ---- one digit, and two
+
+-- a byte less 48, which wraps in 32 bits: below 10 exactly for a digit
+abbrev pub digitValue : ℕ → ℕ
+digitValue b = pick (leb 48 b) (b - 48) (b + 4294967248)
+
+-- 10 where the bytes end
+unfoldable pub digitOf : List ℕ → ℕ → ℕ
+digitOf s at = pick (ltb at (length s)) (digitValue (getD s at 0)) 10
+
+-- 100 where they are not two digits
+abbrev pub pairValue : ℕ → ℕ → ℕ
+pairValue a b = pick (ltb 9 a) 100 (pick (ltb 9 b) 100 (a * 10 + b))
+
+unfoldable pub pairOf : List ℕ → ℕ → ℕ
+pairOf s at = pairValue (digitOf s at) (digitOf s (at + 1))

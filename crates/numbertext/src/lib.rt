@@ -7,7 +7,7 @@ ghost use lib.ListN.{drop};
 ghost use lib.IntN.{pos};
 ghost use Rattle.numbertext.specs.Numerals.{refusal as refusalOf};
 ghost use Rattle.numbertext.specs.Promise.{NumberAt, SignedAt, DashAt, EndAt, afterNumber, afterSigned, afterDash, Moves};
-ghost use Rattle.numbertext.specs.Reading.{isDigit, runOf, endsOf, endedAt, signedRun, limitOf};
+ghost use Rattle.numbertext.specs.Reading.{isDigit, digitOf, pairOf, runOf, endsOf, endedAt, signedRun, limitOf};
 use calendar::Refusal;
 use whole::Narrowed;
 
@@ -195,6 +195,35 @@ pub fn end_at(s: &[u8], at: usize) -> End
         return End::Reached;
     }
     End::Refused(byte_refusal(14, at, s[at]))
+}
+
+// ---- one digit and two, without a refusal: for a reader that goes the long way where they do not stand
+
+// The byte at a place less 48, which is `0`; below that it wraps. So it is below 10 exactly where a digit stands there, and one test tells.
+// 10 where the bytes end.
+pub fn digit_at(s: &[u8], at: usize) -> u32
+    ensures { λ r. ⌜ r ≡ digitOf (now (s .entry)) at ⌝ }
+{
+    if at >= s.len() {
+        return 10;
+    }
+    let b = s[at];
+    std::num::wrapping_sub_u32(b as u32, 48)
+}
+
+// The number that two digits write, or 100 where one of the two does not stand there.
+pub fn pair_at(s: &[u8], at: usize) -> u32
+    ensures { λ r. ⌜ r ≡ pairOf (now (s .entry)) at ⌝ }
+{
+    let tens = digit_at(s, at);
+    if 9 < tens {
+        return 100;
+    }
+    let ones = digit_at(s, at + 1);
+    if 9 < ones {
+        return 100;
+    }
+    tens * 10 + ones
 }
 
 // ---- a reader that holds the bytes and how far it has read

@@ -1,43 +1,64 @@
--- `datetext::read_date` meets its contract: each arm is given which answer it has, and `afterYear` computes there.
+-- `datetext::read_date` meets its contract: a year that is found takes the text to the second number.
 -- Assumes nothing.
 use mathlib.Core.Path.{sym, ap, _∙_}
+use native.Mathlib.Omega.{arith}
 use lib.IntN.{ℤ}
 use mir.Facts.{toZ-ofZ}
 use denote.Ref.{now}
-use Rattle.numbertext.specs.Meaning.{signed-is}
-use Rattle.datetext.specs.Reading.{afterDash, afterYear, read-as}
-use Rattle.numbertext.specs.Reading.{theDash}
+use Rattle.numbertext.specs.Reading.{theNumber}
+use Rattle.datetext.specs.Reading.{afterSecond, read-meant}
+use Rattle.datetext.specs.Usual.{if-at, YearRead, lowered-year}
 use borrow.Author.Needs.{needs, sfits-of}
 use Rattle.datetext.proofs.read_date.Statement.{statement}
 use Rattle.datetext.proofs.read_date.Tie as tie
 
-signed-at-requires : tie.Need-signed-at-requires
-signed-at-requires c κs = search needs
+year : (c : tie.After-known-told) → YearRead (now (c .before .before .before .before .before .args .text)) (c .before .year .given .0 .0) (c .before .year .given .0 .1 .0)
+year c = if-at (rw (c .before .year .given .1) at (c .before .before .before .usual-year .ensures))
 
-enum-known-f : tie.Need-enum-known-f
-enum-known-f c = search needs
+usual-year-requires : tie.Need-usual-year-requires
+usual-year-requires c κs = search needs
+
+enum-told : tie.Need-enum-told
+enum-told c = search needs
+
+any-date-requires : tie.Need-any-date-requires
+any-date-requires c κs = search needs
 
 enum-known-year : tie.Need-enum-known-year
 enum-known-year c = search needs
 
-year-on-requires : tie.Need-year-on-requires
-year-on-requires c κs = search needs
+add-lowered : tie.Need-add-lowered
+add-lowered c = record { fits = omega (arith, year c .small) }
+
+lowered-requires : tie.Need-lowered-requires
+lowered-requires c κs = search needs
+
+usual-on-requires : tie.Need-usual-on-requires
+usual-on-requires c κs = year (c .before) .within
 
 returns : tie.Need-returns
-returns c =
-    let a = c .before .before .before .before .before .args in
-    read-as (sym (ap (afterYear (now (a .text))) (sym (signed-is (c .before .before .before .signed-at .ensures)) ∙ c .before .f .given .1)))
+returns c = search needs
 
 returns-2 : tie.Need-returns-2
 returns-2 c =
-    let a = c .before .before .before .before .before .before .args in
-    let n = c .before .before .year .given .0 .1 .0 in
-    read-as
-    (c .year-on .ensures
-    ∙ ap (λ (y : ℤ). afterDash (now (a .text)) y (theDash (now (a .text)) n)) (toZ-ofZ (sfits-of (c .before .known-told2 .given .0 .1)))
-    ∙ sym (ap (afterYear (now (a .text))) (sym (signed-is (c .before .before .before .before .signed-at .ensures)) ∙ c .before .before .year .given .1)))
+    let k = c .before .before in
+    let s = now (k .before .before .before .before .before .args .text) in
+    let n = k .before .year .given .0 .1 .0 in
+    read-meant
+    (c .usual-on .ensures
+    ∙ ap (λ (y : ℤ). afterSecond s y n (theNumber s n)) (toZ-ofZ (sfits-of (c .before .lowered .ok)) ∙ c .before .lowered .ensures ∙ lowered-year (k .before .year .given .0 .0))
+    ∙ sym (year k .read))
 
 pub read-date-spec : {M : Type 1} → statement M
 read-date-spec =
     tie.close
-    (tie.spec signed-at-requires enum-known-f enum-known-year year-on-requires returns returns-2)
+    (tie.spec
+    usual-year-requires
+    enum-told
+    any-date-requires
+    enum-known-year
+    add-lowered
+    lowered-requires
+    usual-on-requires
+    returns
+    returns-2)
