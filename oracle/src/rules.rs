@@ -72,11 +72,16 @@ impl Short {
     fn moved(&self, of: i64, jdn: i64) -> Record {
         Record { jdn: jdn as i32, weekday: weekday(jdn), julian: jdn < self.cal.switch, ..self.cal.record(of) }
     }
+    /// Where the year has one day, the crate's year has none, and no step goes over it.
+    fn is_emptied(&self) -> bool {
+        self.length == 1
+    }
     /// A step leaves the last day of the year out, and goes on with labels that are a day off.
     fn walk(&self, start: i64, way: u32, count: u32) -> Vec<Record> {
         let back = way == 1 || way == 3;
         let passed = |day: i64| if back { day <= self.last && start > self.last } else { day >= self.last && start < self.last };
         walked_days(start, way, count)
+            .take_while(|&day| !(self.is_emptied() && passed(day)))
             .map(|day| match (passed(day), back) {
                 (false, _) => self.cal.record(day),
                 (true, false) => self.moved(day + 1, day),
@@ -124,9 +129,15 @@ fn short_year(query: &Query) -> Option<String> {
 }
 
 fn short_step(query: &Query, s: &Short) -> Option<String> {
+    let onto = match *query {
+        Query::Succ(_, n) => i64::from(n) == s.last - 1,
+        Query::Pred(_, n) => i64::from(n) == s.last + 1,
+        _ => false,
+    };
     match *query {
-        Query::Succ(_, n) if i64::from(n) == s.last - 1 => record(s.moved(s.last + 1, s.last)),
-        Query::Pred(_, n) if i64::from(n) == s.last + 1 => record(s.moved(s.last - 1, s.last)),
+        _ if onto && s.is_emptied() => refused(Refusal::new(15, 0)),
+        Query::Succ(..) if onto => record(s.moved(s.last + 1, s.last)),
+        Query::Pred(..) if onto => record(s.moved(s.last - 1, s.last)),
         Query::Walk(_, n, count, way) => {
             let mut out = Answer::default();
             walked(&s.walk(n.into(), way, count), &mut out);
