@@ -111,7 +111,7 @@ fn definition(cal: &str) -> Switched {
 // ---- The edges
 
 /// Every reformation near the edges of their table and near those that are asked about closely.
-fn reformation_edges(to: &mut Sink) {
+pub fn reformation_edges(to: &mut Sink) {
     let edges = [MIN, -2147439515, -1, 0, 1830692, 2147439589, MAX];
     for r in edges.into_iter().chain(reformations().into_iter().map(i64::from)) {
         for r in (r - 40).max(MIN)..=(r + 40).min(MAX) {
@@ -199,7 +199,7 @@ fn time_edges(to: &mut Sink, cal: &str) {
 }
 
 /// Every name, and each with a letter changed, left out or added.
-fn names(to: &mut Sink) {
+pub fn names(to: &mut Sink) {
     for name in COUNTRIES.iter().map(|c| c.0).chain(["JULIAN", "GREGORIAN", "REFORM1582", "", "J", "G"]) {
         ask!(to, "name\t{name}");
         ask!(to, "name\t{}", name.to_lowercase());
@@ -215,8 +215,67 @@ fn names(to: &mut Sink) {
     }
 }
 
+/// Every one of the first reformations, by digests of the years on both sides, so that no fault lies before the first one that is told.
+fn first_reformations(to: &mut Sink) {
+    for r in 1830692..1830692 + 3000 {
+        let c = Switched::of(Cal::Reforming(r));
+        let (before, after) = (c.label(i64::from(r) - 1).0, c.label(r.into()).0);
+        for y in before..=after {
+            for command in ["len", "year", "places"] {
+                ask!(to, "{command}\t{r}\t{y}");
+            }
+            ask!(to, "ymd\t{r}\t{y}\t2\t29");
+        }
+        ask!(to, "walk\t{r}\t{}\t400\t2", r - 10);
+    }
+}
+
+/// The inputs that docs/DIFFERENCES.md names, each of which shows a difference.
+const TOLD: &[&str] = &[
+    "len 1832153 304",
+    "jdn 1832153 1832458",
+    "ord 1832153 304 365",
+    "parse 1832153 304-365",
+    "succ 1832153 1832457",
+    "pred 1832153 1832459",
+    "walk 1832153 1832457 3 0",
+    "walk 1832153 1832459 3 1",
+    "walk 1832153 1832456 5 2",
+    "walk 1832153 1832460 5 3",
+    "unix 1832153 -52542432000",
+    "conv J 1832458 1832153",
+    "len 2298203 1580",
+    "len 4717569 8204",
+    "len 19583244 48904",
+    "jdn 19583244 19583244",
+    "succ 19583244 19583243",
+    "pred 19583244 19583245",
+    "walk 19583244 19583240 10 0",
+    "kth 1830694 300 3 4294967295",
+    "find 1830694 300 3 4294967295",
+    "kth 2299161 1582 10 4294967286",
+    "find 2299161 1582 10 4294967287",
+    "find G 5874898 6 4",
+    "find J 5874777 10 18",
+    "find G -5884323 5 14",
+    "ymd 1830692 300 2 29",
+    "ymd 1831057 301 2 29",
+    "ymd 2325606 1655 2 29",
+    "ymd 2342032 1700 2 29",
+    "ymd 2361390 1753 2 29",
+    "ymd 3145930 3901 2 0",
+    "index 3145930 3901 2 99",
+];
+
+pub fn told(to: &mut Sink) {
+    TOLD.iter().for_each(|line| to.line(&[line.replace(' ', "\t").as_bytes()]));
+    to.line(&[b"parse\tG\t\x80"]);
+}
+
 pub fn edges(to: &mut Sink) {
+    told(to);
     reformation_edges(to);
+    first_reformations(to);
     names(to);
     for cal in calendars() {
         day_edges(to, &cal);
@@ -391,10 +450,12 @@ impl Chance {
     /// Bytes by chance, and digits by chance about the ends of 32 bits.
     pub fn wild(&mut self, to: &mut Sink) {
         let cal = self.cal();
+        let signs: [&str; 20] = ["0", "1", "2", "3", "4", "5", "6", "7", "8", "9", "-", "-", "-", "-", "+", "x", ".", " ", "\u{e9}", "\u{20ac}"];
         let mut text = vec![];
         if self.random.below(2) == 0 {
-            let n = self.random.below(24);
-            text.extend((0..n).map(|_| *self.random.one(b"0123456789---++x\xe2\x82\xac\xff. ")));
+            for _ in 0..self.random.below(24) {
+                text.extend_from_slice(if self.random.below(200) == 0 { b"\xff" } else { self.random.one(&signs).as_bytes() });
+            }
         } else {
             let big = [4294967295i64, 4294967296, 2147483647, 2147483648, 42949672950, 99999999999, 12, 13, 366, 365, 0];
             for i in 0..=self.random.below(3) {

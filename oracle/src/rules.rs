@@ -1,6 +1,5 @@
 //! The differences that are expected, one rule for each kind. A rule says for a query what the crate answers in place of what the definition
-//! gives, and is silent on every other query. It explains a difference only where the crate gives exactly that, and the port what the
-//! definition gives.
+//! gives, and is silent on every other query. It is wrong where the crate does not give exactly that, also where the crate is right.
 use crate::definition::{is_leap, month_length, walked_days, weekday, Definition, Runs, Switched};
 use crate::protocol::{answer, places_digest, stepped, walked, year_digest, Answer, Cal, Library, Query, Record, Refusal, NOT_UTF8};
 
@@ -20,15 +19,16 @@ pub const RULES: &[Rule] = &[
     Rule { name: "text that is not UTF-8", says: not_utf8 },
 ];
 
-/// The rule that explains why the crate gives this answer.
-pub fn explain(query: &Query, from_crate: &str) -> Option<usize> {
-    RULES.iter().position(|rule| (rule.says)(query).as_deref() == Some(from_crate))
-}
-
-fn defined(query: &Query) -> Answer {
+/// What the definition gives.
+pub fn by_definition(query: &Query) -> String {
     let mut out = Answer::default();
     answer(&mut Definition, query, &mut out);
-    out
+    out.0
+}
+
+/// The rule that speaks of a query, and what it foretells of the crate: something else than the definition gives.
+pub fn foretold(query: &Query, defined: &str) -> Option<(usize, String)> {
+    RULES.iter().enumerate().find_map(|(i, rule)| (rule.says)(query).filter(|says| says != defined).map(|says| (i, says)))
 }
 
 fn refused(why: Refusal) -> Option<String> {
@@ -248,9 +248,4 @@ fn not_utf8(query: &Query) -> Option<String> {
         }
         _ => None,
     }
-}
-
-/// What the definition gives.
-pub fn by_definition(query: &Query) -> String {
-    defined(query).0
 }

@@ -1,5 +1,7 @@
 // Digests of many answers, so that a query can ask for thousands of days. h starts at 0; a value x turns it into
 // (h * 1000003 + x + 2^33) mod 2147483647. A refused date counts as x = 1 - 2^33, or 2 - 2^33 where its number is outside 32 bits.
+use crate::reply;
+use crate::reply::Reply;
 use calendar::Calendar;
 use calendar::Counted;
 use calendar::Date;
@@ -50,7 +52,7 @@ fn with_date(h: u64, date: Date) -> u64 {
     let d = with_count(c, date.month);
     let e = with_count(d, date.day);
     let f = with_count(e, date.day_ordinal);
-    let g = with_count(f, crate::put::is_julian(date));
+    let g = with_count(f, reply::is_julian(date));
     with_number(g, date.weekday())
 }
 
@@ -91,17 +93,10 @@ fn all_days(calendar: Calendar, jdn: i32, step: u32, count: u32) -> DaySum {
     s
 }
 
-pub fn days(
-    out: &mut [u8],
-    at: usize,
-    calendar: Calendar,
-    jdn: i32,
-    step: u32,
-    count: u32,
-) -> usize {
+pub fn days(calendar: Calendar, jdn: i32, step: u32, count: u32) -> Reply {
     let s = all_days(calendar, jdn, step, count);
-    let a = crate::put::digest(out, at, s.hash);
-    crate::put::count(out, a, s.given)
+    let a = reply::digest(reply::none(), s.hash);
+    reply::count(a, s.given)
 }
 
 // ---- A year by its months and days
@@ -202,14 +197,14 @@ fn steps(start: Walking, count: u32) -> Walking {
     t
 }
 
-fn trail(out: &mut [u8], at: usize, t: Walking) -> usize {
-    let a = crate::put::count(out, at, t.given);
-    let b = crate::put::digest(out, a, t.hash);
+fn trail(t: Walking) -> Reply {
+    let a = reply::count(reply::none(), t.given);
+    let b = reply::digest(a, t.hash);
     if t.given == 0 {
-        return crate::put::letter(out, b, b'-');
+        return reply::letter(b, b'-');
     }
     let last = t.last;
-    crate::put::date(out, b, last)
+    reply::date(b, last)
 }
 
 // The four walkers by number.
@@ -222,9 +217,9 @@ fn made(way: u32, date: Date) -> Walked {
     }
 }
 
-fn walk_from(out: &mut [u8], at: usize, date: Date, count: u32, way: u32) -> usize {
+fn walk_from(date: Date, count: u32, way: u32) -> Reply {
     match made(way, date) {
-        Walked::Refused(why) => crate::put::refused(out, at, why),
+        Walked::Refused(why) => reply::refused(why),
         Walked::Walker(w) => {
             let start = Walking {
                 walker: w,
@@ -232,14 +227,14 @@ fn walk_from(out: &mut [u8], at: usize, date: Date, count: u32, way: u32) -> usi
                 given: 0,
                 hash: 0,
             };
-            trail(out, at, steps(start, count))
+            trail(steps(start, count))
         }
     }
 }
 
-pub fn walk(out: &mut [u8], at: usize, answer: Dated, count: u32, way: u32) -> usize {
+pub fn walk(answer: Dated, count: u32, way: u32) -> Reply {
     match answer {
-        Dated::Refused(why) => crate::put::refused(out, at, why),
-        Dated::Date(date) => walk_from(out, at, date, count, way),
+        Dated::Refused(why) => reply::refused(why),
+        Dated::Date(date) => walk_from(date, count, way),
     }
 }

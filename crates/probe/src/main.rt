@@ -3,8 +3,10 @@
 mod digest;
 mod put;
 mod query;
+mod reply;
 
 use calendar::Calendar;
+use calendar::Date;
 use calendar::Dated;
 use calendar::ReformDate;
 use calendar::ReformDay;
@@ -12,132 +14,160 @@ use calendar::Reformed;
 use datetext::Written;
 use query::Head;
 use query::Numbers;
+use reply::Reply;
 use unixtime::DayTime;
 use unixtime::Timed;
 
 // ---- Queries about a calendar
 
-fn ref_day(out: &mut [u8], at: usize, answer: ReformDay) -> usize {
+fn ref_day(r: Reply, answer: ReformDay) -> Reply {
     match answer {
-        ReformDay::Day(r) => put::integer(out, at, whole::widened(r)),
-        ReformDay::Never => put::letter(out, at, b'-'),
-        ReformDay::Refused(why) => put::refused(out, at, why),
+        ReformDay::Day(day) => reply::number(r, whole::widened(day)),
+        ReformDay::Never => reply::letter(r, b'-'),
+        ReformDay::Refused(why) => reply::refused(why),
     }
 }
 
-fn ref_date(out: &mut [u8], at: usize, answer: ReformDate) -> usize {
+fn ref_date(r: Reply, answer: ReformDate) -> Reply {
     match answer {
-        ReformDate::Date(date) => put::date(out, at, date),
-        ReformDate::Never => put::letter(out, at, b'-'),
-        ReformDate::Refused(why) => put::refused(out, at, why),
+        ReformDate::Date(date) => reply::date(r, date),
+        ReformDate::Never => reply::letter(r, b'-'),
+        ReformDate::Refused(why) => reply::refused(why),
     }
 }
 
-fn reformation(out: &mut [u8], at: usize, calendar: Calendar) -> usize {
-    let a = put::told(out, at, calendar.is_reforming());
-    let b = put::told(out, a, calendar.is_proleptic());
-    let c = ref_day(out, b, calendar.reformation());
-    let d = ref_date(out, c, calendar.last_julian_date());
-    ref_date(out, d, calendar.first_gregorian_date())
+fn reformation(calendar: Calendar) -> Reply {
+    let a = reply::told(reply::none(), calendar.is_reforming());
+    let b = reply::told(a, calendar.is_proleptic());
+    let c = ref_day(b, calendar.reformation());
+    let d = ref_date(c, calendar.last_julian_date());
+    ref_date(d, calendar.first_gregorian_date())
+}
+
+fn calendar_word(calendar: Calendar) -> Reply {
+    match calendar {
+        Calendar::Julian => reply::letter(reply::none(), b'J'),
+        Calendar::Gregorian => reply::letter(reply::none(), b'G'),
+        Calendar::Reforming(r) => reply::number(reply::none(), whole::widened(r)),
+    }
+}
+
+fn name(answer: Reformed) -> Reply {
+    match answer {
+        Reformed::Refused(why) => reply::refused(why),
+        Reformed::Calendar(calendar) => calendar_word(calendar),
+    }
 }
 
 // ---- Queries about a date
 
-fn zero(out: &mut [u8], at: usize, answer: Dated) -> usize {
+fn zero(answer: Dated) -> Reply {
     match answer {
-        Dated::Refused(why) => put::refused(out, at, why),
+        Dated::Refused(why) => reply::refused(why),
         Dated::Date(date) => {
-            let a = put::number(out, at, date.ordinal0());
-            put::number(out, a, date.day_ordinal0())
+            let a = reply::counted(reply::none(), date.ordinal0());
+            reply::counted(a, date.day_ordinal0())
         }
     }
 }
 
-fn step(out: &mut [u8], at: usize, answer: Dated, back: bool) -> usize {
+fn after(answer: Dated) -> Dated {
     match answer {
-        Dated::Refused(why) => put::refused(out, at, why),
-        Dated::Date(date) => {
-            if back {
-                return put::dated(out, at, date.pred());
-            }
-            put::dated(out, at, date.succ())
-        }
+        Dated::Refused(why) => Dated::Refused(why),
+        Dated::Date(date) => date.succ(),
     }
 }
 
-fn convert(out: &mut [u8], at: usize, answer: Dated, to: Calendar) -> usize {
+fn before(answer: Dated) -> Dated {
     match answer {
-        Dated::Refused(why) => put::refused(out, at, why),
-        Dated::Date(date) => put::dated(out, at, date.convert_to(to)),
+        Dated::Refused(why) => Dated::Refused(why),
+        Dated::Date(date) => date.pred(),
     }
 }
 
-fn written(out: &mut [u8], at: usize, text: &[u8], answer: Written) -> usize {
+fn converted(answer: Dated, to: Calendar) -> Dated {
     match answer {
-        Written::Refused(why) => put::refused(out, at, why),
-        Written::Done(n) => {
-            if n <= text.len() {
-                return put::word(out, at, &text[0..n]);
-            }
-            at
-        }
+        Dated::Refused(why) => Dated::Refused(why),
+        Dated::Date(date) => date.convert_to(to),
     }
 }
 
-fn write(out: &mut [u8], at: usize, answer: Dated) -> usize {
+fn text_byte(r: Reply, text: [u8; 14], n: usize, i: usize) -> Reply {
+    if i < n && i < 14 {
+        return reply::add(r, reply::BYTE, whole::counted(text[i] as u32));
+    }
+    r
+}
+
+// The first n bytes of a text, and a tab after them.
+fn text_reply(text: [u8; 14], n: usize) -> Reply {
+    let mut r = reply::none();
+    let mut i: usize = 0;
+    while i < 14 {
+        r = text_byte(r, text, n, i);
+        i += 1;
+    }
+    reply::add(r, reply::BYTE, 9)
+}
+
+fn written(date: Date) -> Reply {
+    let mut text = [0u8; 14];
+    match dateparse::write_date(date, &mut text) {
+        Written::Refused(why) => reply::refused(why),
+        Written::Done(n) => text_reply(text, n),
+    }
+}
+
+fn write(answer: Dated) -> Reply {
     match answer {
-        Dated::Refused(why) => put::refused(out, at, why),
-        Dated::Date(date) => {
-            let mut text = [0u8; 14];
-            let n = dateparse::write_date(date, &mut text);
-            written(out, at, &text, n)
-        }
+        Dated::Refused(why) => reply::refused(why),
+        Dated::Date(date) => written(date),
     }
 }
 
 // ---- Queries about a month
 
-fn month(out: &mut [u8], at: usize, calendar: Calendar, year: i32, month: u32) -> usize {
+fn month(calendar: Calendar, year: i32, month: u32) -> Reply {
     match months::len(calendar, year, month) {
-        calendar::Counted::Refused(why) => put::refused(out, at, why),
+        calendar::Counted::Refused(why) => reply::refused(why),
         calendar::Counted::Number(n) => {
-            let a = put::count(out, at, n);
-            let b = put::number(out, a, months::first_day(calendar, year, month));
-            put::number(out, b, months::last_day(calendar, year, month))
+            let a = reply::count(reply::none(), n);
+            let b = reply::counted(a, months::first_day(calendar, year, month));
+            reply::counted(b, months::last_day(calendar, year, month))
         }
     }
 }
 
 // ---- Queries about seconds
 
-fn time(out: &mut [u8], at: usize, answer: DayTime) -> usize {
+fn time(answer: DayTime) -> Reply {
     match answer {
-        DayTime::Refused(why) => put::refused(out, at, why),
+        DayTime::Refused(why) => reply::refused(why),
         DayTime::At(jdn, seconds) => {
-            let a = put::integer(out, at, whole::widened(jdn));
-            put::count(out, a, seconds)
+            let a = reply::number(reply::none(), whole::widened(jdn));
+            reply::count(a, seconds)
         }
     }
 }
 
-fn unix(out: &mut [u8], at: usize, answer: Timed) -> usize {
+fn unix(answer: Timed) -> Reply {
     match answer {
-        Timed::Refused(why) => put::refused(out, at, why),
+        Timed::Refused(why) => reply::refused(why),
         Timed::At(date, seconds) => {
-            let a = put::date(out, at, date);
-            put::count(out, a, seconds)
+            let a = reply::date(reply::none(), date);
+            reply::count(a, seconds)
         }
     }
 }
 
 // ---- Queries with texts
 
-fn parse(out: &mut [u8], at: usize, calendar: Calendar, line: &[u8], from: usize) -> usize {
+fn parse(calendar: Calendar, line: &[u8], from: usize) -> Reply {
     if from <= line.len() {
         let end = line.len();
-        return put::dated(out, at, dateparse::parse_date(calendar, &line[from..end]));
+        return reply::dated(dateparse::parse_date(calendar, &line[from..end]));
     }
-    put::letter(out, at, b'?')
+    reply::unreadable()
 }
 
 fn named(line: &[u8], from: usize) -> Reformed {
@@ -148,193 +178,125 @@ fn named(line: &[u8], from: usize) -> Reformed {
     ncal::named(line)
 }
 
-fn calendar_word(out: &mut [u8], at: usize, calendar: Calendar) -> usize {
-    match calendar {
-        Calendar::Julian => put::letter(out, at, b'J'),
-        Calendar::Gregorian => put::letter(out, at, b'G'),
-        Calendar::Reforming(r) => put::integer(out, at, whole::widened(r)),
-    }
-}
-
-fn name(out: &mut [u8], at: usize, answer: Reformed) -> usize {
-    match answer {
-        Reformed::Refused(why) => put::refused(out, at, why),
-        Reformed::Calendar(calendar) => calendar_word(out, at, calendar),
-    }
-}
-
 // ---- The query of a line
 
 // Queries whose second letter tells them apart.
-fn with_p(out: &mut [u8], at: usize, second: u8, calendar: Calendar, q: Numbers) -> usize {
+fn with_p(second: u8, calendar: Calendar, q: Numbers) -> Reply {
     if second == b'l' {
-        return put::digest(out, at, digest::places(calendar, q.first));
+        return reply::digest(reply::none(), digest::places(calendar, q.first));
     }
-    step(out, at, calendar.at_jdn(q.first), true)
+    reply::dated(before(calendar.at_jdn(q.first)))
 }
 
-fn with_w(out: &mut [u8], at: usize, second: u8, calendar: Calendar, q: Numbers) -> usize {
+fn with_w(second: u8, calendar: Calendar, q: Numbers) -> Reply {
     if second == b'r' {
-        return write(out, at, calendar.at_jdn(q.first));
+        return write(calendar.at_jdn(q.first));
     }
-    digest::walk(out, at, calendar.at_jdn(q.first), q.second, q.third)
+    digest::walk(calendar.at_jdn(q.first), q.second, q.third)
 }
 
-fn with_y(out: &mut [u8], at: usize, second: u8, calendar: Calendar, q: Numbers) -> usize {
+fn with_y(second: u8, calendar: Calendar, q: Numbers) -> Reply {
     if second == b'e' {
-        return put::digest(out, at, digest::year(calendar, q.first));
+        return reply::digest(reply::none(), digest::year(calendar, q.first));
     }
-    put::dated(out, at, calendar.at_ymd(q.first, q.second, q.third))
+    reply::dated(calendar.at_ymd(q.first, q.second, q.third))
 }
 
-fn about_days(
-    out: &mut [u8],
-    at: usize,
-    letter: u8,
-    second: u8,
-    calendar: Calendar,
-    q: Numbers,
-) -> usize {
+fn about_days(letter: u8, second: u8, calendar: Calendar, q: Numbers) -> Reply {
     match letter {
-        b'p' => with_p(out, at, second, calendar, q),
-        b's' => step(out, at, calendar.at_jdn(q.first), false),
-        b'w' => with_w(out, at, second, calendar, q),
-        b'd' => digest::days(out, at, calendar, q.first, q.second, q.third),
-        b'z' => zero(out, at, calendar.at_jdn(q.first)),
-        _ => put::letter(out, at, b'?'),
+        b'p' => with_p(second, calendar, q),
+        b's' => reply::dated(after(calendar.at_jdn(q.first))),
+        b'w' => with_w(second, calendar, q),
+        b'd' => digest::days(calendar, q.first, q.second, q.third),
+        b'z' => zero(calendar.at_jdn(q.first)),
+        _ => reply::unreadable(),
     }
 }
 
-fn about_months(
-    out: &mut [u8],
-    at: usize,
-    letter: u8,
-    second: u8,
-    calendar: Calendar,
-    q: Numbers,
-) -> usize {
+fn about_months(letter: u8, second: u8, calendar: Calendar, q: Numbers) -> Reply {
+    let r = reply::none();
     match letter {
-        b'm' => month(out, at, calendar, q.first, q.second),
-        b'h' => put::told(
-            out,
-            at,
-            months::contains(calendar, q.first, q.second, q.third),
-        ),
-        b'i' => put::number(
-            out,
-            at,
-            months::day_ordinal(calendar, q.first, q.second, q.third),
-        ),
-        b'k' => put::number(
-            out,
-            at,
-            months::nth_day(calendar, q.first, q.second, q.third),
-        ),
-        b'f' => put::dated(
-            out,
-            at,
-            months::nth_date(calendar, q.first, q.second, q.third),
-        ),
-        _ => about_days(out, at, letter, second, calendar, q),
+        b'm' => month(calendar, q.first, q.second),
+        b'h' => reply::told(r, months::contains(calendar, q.first, q.second, q.third)),
+        b'i' => reply::counted(r, months::day_ordinal(calendar, q.first, q.second, q.third)),
+        b'k' => reply::counted(r, months::nth_day(calendar, q.first, q.second, q.third)),
+        b'f' => reply::dated(months::nth_date(calendar, q.first, q.second, q.third)),
+        _ => about_days(letter, second, calendar, q),
     }
 }
 
-fn about_dates(
-    out: &mut [u8],
-    at: usize,
-    letter: u8,
-    second: u8,
-    calendar: Calendar,
-    q: Numbers,
-) -> usize {
+fn about_dates(letter: u8, second: u8, calendar: Calendar, q: Numbers) -> Reply {
     match letter {
-        b'j' => put::dated(out, at, calendar.at_jdn(q.first)),
-        b'y' => with_y(out, at, second, calendar, q),
-        b'o' => put::dated(out, at, calendar.at_ordinal_date(q.first, q.second)),
-        b'l' => put::number(out, at, months::year_length(calendar, q.first)),
-        b'r' => reformation(out, at, calendar),
-        _ => about_months(out, at, letter, second, calendar, q),
+        b'j' => reply::dated(calendar.at_jdn(q.first)),
+        b'y' => with_y(second, calendar, q),
+        b'o' => reply::dated(calendar.at_ordinal_date(q.first, q.second)),
+        b'l' => reply::counted(reply::none(), months::year_length(calendar, q.first)),
+        b'r' => reformation(calendar),
+        _ => about_months(letter, second, calendar, q),
     }
 }
 
 // The second calendar of a query is its third field.
-fn to_calendar(out: &mut [u8], at: usize, calendar: Calendar, line: &[u8], from: usize) -> usize {
-    let q = query::numbers_at(line, from);
+fn to_calendar(calendar: Calendar, line: &[u8], from: usize) -> Reply {
+    let jdn = query::signed_at(line, from);
     match query::calendar_at(line, query::after_tab(line, from)) {
-        Head::Unreadable => put::letter(out, at, b'?'),
-        Head::Refused(why) => put::refused(out, at, why),
-        Head::Calendar(to, _) => convert(out, at, calendar.at_jdn(q.first), to),
+        Head::Unreadable => reply::unreadable(),
+        Head::Refused(why) => reply::refused(why),
+        Head::Calendar(to, _) => reply::dated(converted(calendar.at_jdn(jdn), to)),
     }
 }
 
 // Whether a query is `parse`, and not another with this letter.
 fn is_parse(letter: u8, second: u8) -> bool {
-    if letter == b'p' {
-        return second == b'a';
-    }
-    false
+    letter == b'p' && second == b'a'
 }
 
-fn with_calendar(out: &mut [u8], at: usize, calendar: Calendar, line: &[u8], from: usize) -> usize {
+fn with_calendar(calendar: Calendar, line: &[u8], from: usize) -> Reply {
     let letter = query::byte_at(line, 0);
     let second = query::byte_at(line, 1);
     if is_parse(letter, second) {
-        return parse(out, at, calendar, line, from);
+        return parse(calendar, line, from);
     }
     match letter {
-        b'u' => unix(
-            out,
-            at,
-            unixtime::at_unix_time(calendar, query::long_at(line, from)),
-        ),
-        b'c' => to_calendar(out, at, calendar, line, from),
-        _ => about_dates(
-            out,
-            at,
-            letter,
-            second,
-            calendar,
-            query::numbers_at(line, from),
-        ),
+        b'u' => unix(unixtime::at_unix_time(calendar, query::long_at(line, from))),
+        b'c' => to_calendar(calendar, line, from),
+        _ => about_dates(letter, second, calendar, query::numbers_at(line, from)),
     }
 }
 
-fn of_calendar(out: &mut [u8], at: usize, line: &[u8], from: usize) -> usize {
+fn of_calendar(line: &[u8], from: usize) -> Reply {
     match query::calendar_at(line, from) {
-        Head::Unreadable => put::letter(out, at, b'?'),
-        Head::Refused(why) => put::refused(out, at, why),
-        Head::Calendar(calendar, next) => with_calendar(out, at, calendar, line, next),
+        Head::Unreadable => reply::unreadable(),
+        Head::Refused(why) => reply::refused(why),
+        Head::Calendar(calendar, next) => with_calendar(calendar, line, next),
     }
 }
 
 // Queries about a day number alone: `wd` and `sec`.
-fn of_day(out: &mut [u8], at: usize, letter: u8, jdn: i32) -> usize {
+fn of_day(letter: u8, jdn: i32) -> Reply {
     if letter == b'w' {
-        return put::count(out, at, calendar::Weekday::for_jdn(jdn));
+        return reply::count(reply::none(), calendar::Weekday::for_jdn(jdn));
     }
-    put::integer(out, at, unixtime::jdn2unix(jdn))
+    reply::number(reply::none(), unixtime::jdn2unix(jdn))
 }
 
 fn is_of_day(letter: u8, second: u8) -> bool {
     if letter == b'w' {
         return second == b'd';
     }
-    if letter == b's' {
-        return second == b'e';
-    }
-    false
+    letter == b's' && second == b'e'
 }
 
-fn fields(out: &mut [u8], at: usize, line: &[u8]) -> usize {
+fn answer_to(line: &[u8]) -> Reply {
     let letter = query::byte_at(line, 0);
     let from = query::after_tab(line, 0);
     if is_of_day(letter, query::byte_at(line, 1)) {
-        return of_day(out, at, letter, query::signed_at(line, from));
+        return of_day(letter, query::signed_at(line, from));
     }
     match letter {
-        b'n' => name(out, at, named(line, from)),
-        b't' => time(out, at, unixtime::unix2jdn(query::long_at(line, from))),
-        _ => of_calendar(out, at, line, from),
+        b'n' => name(named(line, from)),
+        b't' => time(unixtime::unix2jdn(query::long_at(line, from))),
+        _ => of_calendar(line, from),
     }
 }
 
@@ -364,7 +326,7 @@ fn room(out: &[u8], n: usize) -> usize {
 fn answer(line: &[u8], n: usize, out: &mut [u8], used: usize) -> usize {
     let at = room(out, used);
     if n <= line.len() {
-        let end = fields(out, at, &line[0..n]);
+        let end = put::reply(out, at, answer_to(&line[0..n]));
         return put::line_end(out, end);
     }
     at
