@@ -65,16 +65,16 @@ pub fn unreadable() -> Reply {
 // ---- Refusals
 
 // Of the two names that number 9 has, the crate uses the first at the year, where a number can have a sign. The other counts as 109 here.
-fn name_of(why: Refusal) -> u32 {
-    if why.number == 9 && 0 < why.place {
+fn name_of(number: u32, place: usize) -> u32 {
+    if number == 9 && 0 < place {
         return 109;
     }
-    why.number
+    number
 }
 
 pub fn refused(why: Refusal) -> Reply {
     let a = letter(none(), b'!');
-    let b = add(a, NAME, whole::counted(name_of(why)));
+    let b = add(a, NAME, whole::counted(name_of(why.number, why.place)));
     let c = count(b, (why.place % 4_294_967_296) as u32);
     number(c, why.value)
 }
@@ -113,9 +113,7 @@ pub fn is_julian(date: Date) -> u32 {
 }
 
 // J for a Julian date and G for a Gregorian one; no date is both or neither.
-fn style(date: Date) -> u8 {
-    let julian = truth(date.is_julian());
-    let gregorian = truth(date.is_gregorian());
+fn style_letter(julian: u32, gregorian: u32) -> u8 {
     if julian == 1 && gregorian == 0 {
         return b'J';
     }
@@ -123,6 +121,12 @@ fn style(date: Date) -> u8 {
         return b'G';
     }
     b'?'
+}
+
+fn style(date: Date) -> u8 {
+    let julian = truth(date.is_julian());
+    let gregorian = truth(date.is_gregorian());
+    style_letter(julian, gregorian)
 }
 
 pub fn date(reply: Reply, date: Date) -> Reply {
