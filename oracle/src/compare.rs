@@ -5,9 +5,9 @@ use crate::protocol::Query;
 use crate::queries::{edges, short_texts, Chance, Sink};
 use crate::rules::{by_definition, foretold, RULES};
 use std::collections::BTreeMap;
-use std::io::{self, BufRead, BufReader, Read, Write};
+use std::io::{self, BufRead, BufReader, Write};
 use std::process::{Command, Stdio};
-use std::sync::mpsc::sync_channel;
+use std::sync::mpsc::{sync_channel, Receiver};
 use std::sync::Arc;
 use std::thread;
 use std::time::Instant;
@@ -99,26 +99,13 @@ impl Tally {
     }
 }
 
-/// Runs the port's program and compares; whether all differences are explained.
-pub fn run(share: u64, program: &str, arguments: &[&str]) -> io::Result<bool> {
-    let start = Instant::now();
-    let mut child = Command::new(program).args(arguments).stdin(Stdio::piped()).stdout(Stdio::piped()).spawn()?;
-    let mut input = child.stdin.take().expect("the input is a pipe");
-    let mut output = BufReader::with_capacity(1 << 16, child.stdout.take().expect("the output is a pipe"));
-    let (to_port, for_port) = sync_channel::<Arc<Vec<u8>>>(64);
-    let (to_crate, for_crate) = sync_channel::<Arc<Vec<u8>>>(64);
-    // A side that has ended takes no more queries: what is missing is seen where the answers meet.
-    let writer = thread::spawn(move || for_port.iter().try_for_each(|block| input.write_all(&block)));
-    let maker = thread::spawn(move || {
-        all_queries(share, &mut |block| {
-            let block = Arc::new(block);
-            let _ = to_port.send(block.clone());
-            let _ = to_crate.send(block);
-        })
-    });
-    let (mut tally, mut side, mut answer) = (Tally::new(), Crate::default(), vec![]);
-    for block in for_crate {
-        for line in block.split(|&b| b == b'\n').take(block.iter().filter(|&&b| b == b'\n').count()) {
+type Blocks = Receiver<Arc<Vec<u8>>>;
+
+/// The port's answers, one for each query of the blocks; whether there were so many.
+fn meet(blocks: Blocks, output: &mut impl BufRead, tally: &mut Tally) -> io::Result<bool> {
+    let (mut side, mut answer) = (Crate::default(), vec![]);
+    for block in blocks {
+        for line in block.strip_suffix(b"\n").unwrap_or(&block).split(|&b| b == b'\n') {
             answer.clear();
             if output.read_until(b'\n', &mut answer)? == 0 {
                 println!("the port's program ended before the query {}", shown(line));
@@ -128,14 +115,36 @@ pub fn run(share: u64, program: &str, arguments: &[&str]) -> io::Result<bool> {
             tally.add(&mut side, line, &answer);
         }
     }
+    answer.clear();
+    Ok(output.read_until(b'\n', &mut answer)? == 0)
+}
+
+/// Runs the port's program and compares; whether all differences are explained.
+pub fn run(share: u64, program: &str, arguments: &[&str]) -> io::Result<bool> {
+    let start = Instant::now();
+    let mut child = Command::new(program).args(arguments).stdin(Stdio::piped()).stdout(Stdio::piped()).spawn()?;
+    let mut input = child.stdin.take().expect("the input is a pipe");
+    let mut output = BufReader::with_capacity(1 << 16, child.stdout.take().expect("the output is a pipe"));
+    let (to_port, for_port): (_, Blocks) = sync_channel(64);
+    let (to_crate, for_crate): (_, Blocks) = sync_channel(64);
+    // Where the port's program has ended, the sending fails and is let be: the answers that are missing are seen where the answers meet.
+    let writer = thread::spawn(move || for_port.iter().try_for_each(|block| input.write_all(&block)));
+    let maker = thread::spawn(move || {
+        all_queries(share, &mut |block| {
+            let block = Arc::new(block);
+            let _ = to_port.send(block.clone());
+            let _ = to_crate.send(block);
+        })
+    });
+    let mut tally = Tally::new();
+    let complete = meet(for_crate, &mut output, &mut tally)?;
     maker.join().expect("the maker of queries does not panic");
     let written = writer.join().expect("the writer does not panic");
-    let left = output.read_to_end(&mut answer)?;
     let status = child.wait()?;
     tally.tell(start.elapsed().as_secs());
-    if written.is_err() || left > 0 || !status.success() {
-        println!("the port's program ended otherwise than it should: {status}, {left} bytes left over");
+    if !complete || written.is_err() || !status.success() {
+        println!("the port's program ended otherwise than it should: {status}");
         return Ok(false);
     }
-    Ok(tally.unexplained == 0)
+    Ok(tally.unexplained == 0 && tally.queries > 0)
 }

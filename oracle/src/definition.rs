@@ -1,7 +1,6 @@
 //! The calendars as they are defined, without the crate and without the port: a day is a whole number; below the day of the reformation it
 //! has its Julian label, from there on its Gregorian one; a year or a month is the days that bear it. Years are counted from an anchor with
 //! the leap rules alone, in 64 bits. The tests hold these counts against labels that go from each day to the next.
-use crate::crate_side::COUNTRIES;
 use crate::protocol::{Cal, Library, Or, Record, Refusal, Reformation};
 
 /// Year, month and day, which are compared in this order.
@@ -197,6 +196,18 @@ fn fits(cal: Switched, year: i32, day: i64) -> Or<Dated> {
     }
 }
 
+/// The first Gregorian dates of the countries, as the comments of `ncal.rs` tell them.
+const FIRST_GREGORIAN: &[(&str, Label)] = &[
+    ("ALBANIA", (1912, 12, 14)), ("AUSTRALIA", (1752, 9, 14)), ("AUSTRIA", (1583, 10, 16)), ("BELGIUM", (1582, 12, 25)),
+    ("BULGARIA", (1916, 4, 14)), ("CANADA", (1752, 9, 14)), ("CHINA", (1912, 1, 1)), ("CZECH_REPUBLIC", (1584, 1, 17)),
+    ("DENMARK", (1700, 3, 1)), ("FINLAND", (1753, 3, 1)), ("FRANCE", (1582, 12, 20)), ("GERMANY", (1700, 3, 1)), ("GREECE", (1924, 3, 23)),
+    ("HUNGARY", (1587, 11, 1)), ("ICELAND", (1700, 11, 28)), ("ITALY", (1582, 10, 15)), ("JAPAN", (1919, 1, 1)), ("LATVIA", (1918, 2, 15)),
+    ("LITHUANIA", (1918, 2, 15)), ("LUXEMBOURG", (1582, 12, 25)), ("NETHERLANDS", (1582, 12, 25)), ("NORWAY", (1700, 3, 1)),
+    ("POLAND", (1582, 10, 15)), ("PORTUGAL", (1582, 10, 15)), ("ROMANIA", (1919, 4, 14)), ("RUSSIA", (1918, 2, 14)),
+    ("SLOVENIA", (1919, 3, 18)), ("SPAIN", (1582, 10, 15)), ("SWEDEN", (1753, 3, 1)), ("SWITZERLAND", (1655, 3, 11)),
+    ("TURKEY", (1927, 1, 1)), ("UNITED_KINGDOM", (1752, 9, 14)), ("UNITED_STATES", (1752, 9, 14)), ("YUGOSLAVIA", (1919, 3, 18)),
+];
+
 // ---- The calls
 
 impl Library for Definition {
@@ -351,8 +362,8 @@ impl Library for Definition {
         match name {
             b"JULIAN" => Ok(Cal::Julian),
             b"GREGORIAN" => Ok(Cal::Gregorian),
-            _ => match COUNTRIES.iter().find(|c| c.0.as_bytes() == name) {
-                Some(c) => Ok(Cal::Reforming(c.1)),
+            _ => match FIRST_GREGORIAN.iter().find(|c| c.0.as_bytes() == name) {
+                Some(c) => Ok(Cal::Reforming(day_of(false, c.1) as i32)),
                 None => Err(Refusal::new(19, 0)),
             },
         }
