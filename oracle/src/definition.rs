@@ -383,7 +383,8 @@ pub fn walked_days(start: i64, way: u32, count: u32) -> impl Iterator<Item = i64
 
 // ---- Texts
 
-enum Text {
+/// A date text: year and ordinal, or year, month and day, with the place of the last number.
+pub enum Text {
     Ordinal(i32, u32, usize),
     Day(i32, u32, u32, usize),
 }
@@ -429,7 +430,7 @@ fn dash(text: &[u8], at: usize) -> Or<usize> {
     }
 }
 
-fn read(text: &[u8]) -> Or<Text> {
+pub fn read(text: &[u8]) -> Or<Text> {
     let (year, next) = signed(text)?;
     let second = dash(text, next)?;
     let (number, next) = unsigned(text, second)?;

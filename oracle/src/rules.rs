@@ -1,6 +1,6 @@
 //! The differences that are expected, one rule for each kind. A rule says for a query what the crate answers in place of what the definition
 //! gives, and is silent on every other query. It is wrong where the crate does not give exactly that, also where the crate is right.
-use crate::definition::{is_leap, month_length, walked_days, weekday, Definition, Runs, Switched};
+use crate::definition::{is_leap, month_length, read, walked_days, weekday, Definition, Label, Runs, Switched, Text};
 use crate::protocol::{answer, places_digest, stepped, walked, year_digest, Answer, Cal, Library, Query, Record, Refusal, NOT_UTF8};
 
 pub const PANIC: &str = "!\tPANIC";
@@ -147,12 +147,12 @@ fn short_step(query: &Query, s: &Short) -> Option<String> {
     }
 }
 
-/// A text with the ordinal of the last day: the definition reads it as that day.
+/// A text with the ordinal of the last day.
 fn short_text(s: &Short, text: &[u8]) -> Option<String> {
-    let day = Definition.parse(s.cal, text).ok()?.day;
-    let dashes: Vec<usize> = (1..text.len()).filter(|&i| text[i] == b'-').collect();
-    let [dash] = dashes[..] else { return None };
-    (day == s.last).then(|| refused(Refusal { number: 6, place: dash + 1, value: s.length.into() }))?
+    match read(text).ok()? {
+        Text::Ordinal(y, o, place) if s.year == y && s.length == o => refused(Refusal { number: 6, place, value: o.into() }),
+        _ => None,
+    }
 }
 
 // ---- Positions in a month
@@ -192,25 +192,18 @@ fn outside(query: &Query) -> Option<String> {
 
 // ---- Names of refusals
 
-/// The year, month and day that a query asks about, with what the definition says of them.
-fn missing(query: &Query) -> Option<(Switched, (i64, u32, u32), Refusal)> {
+/// The year, month and day that a query asks about and that the definition refuses as 4, with the refusal that the crate has for it.
+fn missing(query: &Query) -> Option<(Switched, Label, Refusal)> {
     use Query::*;
-    let (c, place) = match *query {
-        Ymd(c, ..) | Index(c, ..) => (c, 0),
-        Parse(c, text) => (c, text.iter().rposition(|&b| b == b'-')? + 1),
+    let (c, l, place) = match *query {
+        Ymd(c, y, m, d) | Index(c, y, m, d) => (c, (y.into(), m, d), 0),
+        Parse(c, text) => match read(text).ok()? {
+            Text::Day(y, m, d, place) => (c, (y.into(), m, d), place),
+            Text::Ordinal(..) => return None,
+        },
         _ => return None,
     };
     let cal = Definition.calendar(c).ok()?;
-    let l = match *query {
-        Ymd(_, y, m, d) | Index(_, y, m, d) => (y.into(), m, d),
-        Parse(_, text) => {
-            let text = std::str::from_utf8(text).ok()?;
-            let (rest, day) = text.rsplit_once('-')?;
-            let (year, month) = rest.rsplit_once('-')?;
-            (year.parse().ok()?, month.parse().ok()?, day.parse().ok()?)
-        }
-        _ => return None,
-    };
     if !(1..=12).contains(&l.1) {
         return None;
     }
