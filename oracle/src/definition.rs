@@ -73,6 +73,17 @@ pub fn label(julian: bool, day: i64) -> Label {
     (year, month, left as u32 + 1)
 }
 
+/// The label of the day after.
+pub fn next_label(julian: bool, (year, month, day): Label) -> Label {
+    if day < month_length(julian, year, month) {
+        (year, month, day + 1)
+    } else if month < 12 {
+        (year, month + 1, 1)
+    } else {
+        (year + 1, 1, 1)
+    }
+}
+
 pub fn is_label(julian: bool, (year, month, day): Label) -> bool {
     (1..=12).contains(&month) && 1 <= day && day <= month_length(julian, year, month)
 }
@@ -450,16 +461,6 @@ pub fn read(text: &[u8]) -> Or<Text> {
 mod tests {
     use super::*;
 
-    fn next(julian: bool, (year, month, day): Label) -> Label {
-        if day < month_length(julian, year, month) {
-            (year, month, day + 1)
-        } else if month < 12 {
-            (year, month + 1, 1)
-        } else {
-            (year + 1, 1, 1)
-        }
-    }
-
     /// Eight thousand years about the anchors, day by day, and back from each label to its day.
     #[test]
     fn labels_go_from_day_to_day() {
@@ -470,7 +471,7 @@ mod tests {
             for day in -200_000..2_800_000 {
                 assert_eq!(label(julian, day), l);
                 assert_eq!(day_of(julian, l), day);
-                l = next(julian, l);
+                l = next_label(julian, l);
             }
         }
     }

@@ -4,6 +4,7 @@
 //!   oracle compare SHARE PROGRAM ARGUMENT..  runs the port's program, asks both every SHARE-th query, and tells each difference
 //!   oracle queries SHARE                     writes these queries
 //!   oracle sample QUERIES ANSWERS            writes the sample that is recorded for the port's program
+//!   oracle count                             counts the reformations that the crate's first fault touches
 mod compare;
 mod crate_side;
 mod definition;
@@ -61,8 +62,12 @@ fn main() -> ExitCode {
         ["queries", share] => queries(share.parse().expect("the share is a number")).map(|_| true),
         ["compare", share, program, ref more @ ..] => compare::run(share.parse().expect("the share is a number"), program, more),
         ["sample", queries, answers] => sample::write(queries, answers),
+        ["count"] => {
+            rules::count();
+            Ok(true)
+        }
         _ => {
-            eprintln!("oracle answer | compare SHARE PROGRAM ARGUMENT.. | queries SHARE | sample QUERIES ANSWERS");
+            eprintln!("oracle answer | compare SHARE PROGRAM ARGUMENT.. | queries SHARE | sample QUERIES ANSWERS | count");
             Ok(false)
         }
     };

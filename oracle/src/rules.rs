@@ -1,6 +1,6 @@
 //! The differences that are expected, one rule for each kind. A rule says for a query what the crate answers in place of what the definition
 //! gives, and is silent on every other query. It is wrong where the crate does not give exactly that, also where the crate is right.
-use crate::definition::{is_leap, month_length, read, walked_days, weekday, Definition, Label, Runs, Switched, Text};
+use crate::definition::{is_leap, label, month_length, next_label, read, walked_days, weekday, Definition, Label, Runs, Switched, Text};
 use crate::protocol::{answer, places_digest, stepped, walked, year_digest, Answer, Cal, Library, Query, Record, Refusal, NOT_UTF8};
 
 pub const PANIC: &str = "!\tPANIC";
@@ -55,14 +55,18 @@ struct Short {
     last: i64,
 }
 
+fn is_short(before: Label, (year, month, _): Label) -> bool {
+    is_leap(false, year) && month > 2 && before < (year, 3, 1)
+}
+
 fn short(cal: Cal) -> Option<Short> {
     let cal = Definition.calendar(cal).ok()?;
     let Cal::Reforming(r) = cal.cal else { return None };
-    let (year, month, _) = cal.label(r.into());
-    let before = cal.label(i64::from(r) - 1);
-    if !is_leap(false, year) || month < 3 || before >= (year, 3, 1) {
+    let after = cal.label(r.into());
+    if !is_short(cal.label(i64::from(r) - 1), after) {
         return None;
     }
+    let year = after.0;
     let days = Runs::year(cal, year);
     Some(Short { cal, year: year as i32, length: days.len(), last: days.nth(days.len())? })
 }
@@ -89,6 +93,28 @@ impl Short {
             })
             .collect()
     }
+}
+
+/// Goes over all accepted reformations: how many have such a year, and the least ones of each kind that docs/DIFFERENCES.md tells.
+pub fn count() {
+    let (first, last) = (1830692, 2147439588);
+    let (mut before, mut after) = (label(true, first - 1), label(false, first));
+    let mut short = 0;
+    let mut least = [("a year too short", None), ("across years", None), ("a year of one day", None), ("a month skipped as a whole", None)];
+    for r in first..=last {
+        let is = is_short(before, after);
+        let across = is && before.0 < after.0;
+        let months = (after.0 - before.0) * 12 + i64::from(after.1) - i64::from(before.1);
+        for (least, holds) in least.iter_mut().zip([is, across, across && (after.1, after.2) == (12, 31), months > 1]) {
+            if holds && least.1.is_none() {
+                least.1 = Some(r);
+            }
+        }
+        short += is as u64;
+        (before, after) = (next_label(true, before), next_label(false, after));
+    }
+    println!("{short} of {} reformations have a year that the crate makes too short", last - first + 1);
+    least.iter().for_each(|(what, r)| println!("least with {what}: {}", r.map_or("none".into(), |r: i64| r.to_string())));
 }
 
 /// What is asked about: the calendar, and the day where it is one.
