@@ -1,0 +1,47 @@
+-- `probe::query::magnitude_at` is safe and ends. Assumes nothing.
+use Prim.Native.Nat.{_-_, _≤_}
+use borrow.Author.Needs.{needs}
+use lib.ListN.{length}
+use Rattle.probe.proofs.query.magnitude_at.Statement.{statement}
+use Rattle.probe.proofs.query.magnitude_at.Tie as tie
+
+abbrev Inv-loop : tie.InvT-loop
+Inv-loop line from n₀ i₀ n i = from ≤ i
+
+abbrev μ-loop : tie.MeasureT-loop
+μ-loop line from n₀ i₀ n i = length line - i
+
+loop-holds : tie.Need-loop-holds Inv-loop μ-loop
+loop-holds c = search needs
+
+shared-slice-read-longer : tie.Need-shared-slice-read-longer Inv-loop μ-loop
+shared-slice-read-longer c = search needs
+
+longer-requires : tie.Need-longer-requires Inv-loop μ-loop
+longer-requires c κs = search needs
+
+add-i : tie.Need-add-i Inv-loop μ-loop
+add-i c = search needs
+
+loop-less : tie.Need-loop-less Inv-loop μ-loop
+loop-less c = search needs
+
+loop-again : tie.Need-loop-again Inv-loop μ-loop
+loop-again c = search needs
+
+returns : tie.Need-returns Inv-loop μ-loop
+returns c = search needs
+
+pub magnitude-at-spec : {M : Type 1} → statement M
+magnitude-at-spec =
+    tie.close
+    (tie.spec
+    Inv-loop
+    μ-loop
+    loop-holds
+    shared-slice-read-longer
+    longer-requires
+    add-i
+    loop-less
+    loop-again
+    returns)

@@ -1,0 +1,392 @@
+// The port's side of the comparison with the Rust crate: a query a line from standard input, an answer a line to standard output.
+// oracle/PROTOCOL.md has the queries and their answers. A query is known by its first two letters.
+mod digest;
+mod put;
+mod query;
+mod reply;
+
+use calendar::Calendar;
+use calendar::Date;
+use calendar::Dated;
+use calendar::ReformDate;
+use calendar::ReformDay;
+use calendar::Reformed;
+use datetext::Written;
+use query::Head;
+use query::Numbers;
+use reply::Reply;
+use unixtime::DayTime;
+use unixtime::Timed;
+
+// ---- Queries about a calendar
+
+fn ref_day(r: Reply, answer: ReformDay) -> Reply {
+    match answer {
+        ReformDay::Day(day) => reply::number(r, whole::widened(day)),
+        ReformDay::Never => reply::letter(r, b'-'),
+        ReformDay::Refused(why) => reply::refused(why),
+    }
+}
+
+fn ref_date(r: Reply, answer: ReformDate) -> Reply {
+    match answer {
+        ReformDate::Date(date) => reply::date(r, date),
+        ReformDate::Never => reply::letter(r, b'-'),
+        ReformDate::Refused(why) => reply::refused(why),
+    }
+}
+
+fn reformation(calendar: Calendar) -> Reply {
+    let a = reply::told(reply::none(), calendar.is_reforming());
+    let b = reply::told(a, calendar.is_proleptic());
+    let c = ref_day(b, calendar.reformation());
+    let d = ref_date(c, calendar.last_julian_date());
+    ref_date(d, calendar.first_gregorian_date())
+}
+
+fn calendar_word(calendar: Calendar) -> Reply {
+    match calendar {
+        Calendar::Julian => reply::letter(reply::none(), b'J'),
+        Calendar::Gregorian => reply::letter(reply::none(), b'G'),
+        Calendar::Reforming(r) => reply::number(reply::none(), whole::widened(r)),
+    }
+}
+
+fn name(answer: Reformed) -> Reply {
+    match answer {
+        Reformed::Refused(why) => reply::refused(why),
+        Reformed::Calendar(calendar) => calendar_word(calendar),
+    }
+}
+
+// ---- Queries about a date
+
+fn zero(answer: Dated) -> Reply {
+    match answer {
+        Dated::Refused(why) => reply::refused(why),
+        Dated::Date(date) => {
+            let a = reply::counted(reply::none(), date.ordinal0());
+            reply::counted(a, date.day_ordinal0())
+        }
+    }
+}
+
+fn after(answer: Dated) -> Dated {
+    match answer {
+        Dated::Refused(why) => Dated::Refused(why),
+        Dated::Date(date) => date.succ(),
+    }
+}
+
+fn before(answer: Dated) -> Dated {
+    match answer {
+        Dated::Refused(why) => Dated::Refused(why),
+        Dated::Date(date) => date.pred(),
+    }
+}
+
+fn converted(answer: Dated, to: Calendar) -> Dated {
+    match answer {
+        Dated::Refused(why) => Dated::Refused(why),
+        Dated::Date(date) => date.convert_to(to),
+    }
+}
+
+fn text_byte(r: Reply, text: [u8; 14], n: usize, i: usize) -> Reply {
+    if i < n && i < 14 {
+        return reply::add(r, reply::BYTE, whole::counted(text[i] as u32));
+    }
+    r
+}
+
+// The first n bytes of a text, and a tab after them.
+fn text_reply(text: [u8; 14], n: usize) -> Reply {
+    let mut r = reply::none();
+    let mut i: usize = 0;
+    while i < 14 {
+        r = text_byte(r, text, n, i);
+        i += 1;
+    }
+    reply::add(r, reply::BYTE, 9)
+}
+
+fn written(date: Date) -> Reply {
+    let mut text = [0u8; 14];
+    match dateparse::write_date(date, &mut text) {
+        Written::Refused(why) => reply::refused(why),
+        Written::Done(n) => text_reply(text, n),
+    }
+}
+
+fn write(answer: Dated) -> Reply {
+    match answer {
+        Dated::Refused(why) => reply::refused(why),
+        Dated::Date(date) => written(date),
+    }
+}
+
+// ---- Queries about a month
+
+fn month(calendar: Calendar, year: i32, month: u32) -> Reply {
+    match months::len(calendar, year, month) {
+        calendar::Counted::Refused(why) => reply::refused(why),
+        calendar::Counted::Number(n) => {
+            let a = reply::count(reply::none(), n);
+            let b = reply::counted(a, months::first_day(calendar, year, month));
+            reply::counted(b, months::last_day(calendar, year, month))
+        }
+    }
+}
+
+// ---- Queries about seconds
+
+fn time(answer: DayTime) -> Reply {
+    match answer {
+        DayTime::Refused(why) => reply::refused(why),
+        DayTime::At(jdn, seconds) => {
+            let a = reply::number(reply::none(), whole::widened(jdn));
+            reply::count(a, seconds)
+        }
+    }
+}
+
+fn unix(answer: Timed) -> Reply {
+    match answer {
+        Timed::Refused(why) => reply::refused(why),
+        Timed::At(date, seconds) => {
+            let a = reply::date(reply::none(), date);
+            reply::count(a, seconds)
+        }
+    }
+}
+
+// ---- Queries with texts
+
+fn parse(calendar: Calendar, line: &[u8], from: usize) -> Reply {
+    if from <= line.len() {
+        let end = line.len();
+        return reply::dated(dateparse::parse_date(calendar, &line[from..end]));
+    }
+    reply::unreadable()
+}
+
+fn named(line: &[u8], from: usize) -> Reformed {
+    if from <= line.len() {
+        let end = line.len();
+        return ncal::named(&line[from..end]);
+    }
+    ncal::named(line)
+}
+
+// ---- The query of a line
+
+// Queries whose second letter tells them apart.
+fn with_p(second: u8, calendar: Calendar, q: Numbers) -> Reply {
+    if second == b'l' {
+        return reply::digest(reply::none(), digest::places(calendar, q.first));
+    }
+    reply::dated(before(calendar.at_jdn(q.first)))
+}
+
+fn with_w(second: u8, calendar: Calendar, q: Numbers) -> Reply {
+    if second == b'r' {
+        return write(calendar.at_jdn(q.first));
+    }
+    digest::walk(calendar.at_jdn(q.first), q.second, q.third)
+}
+
+fn with_y(second: u8, calendar: Calendar, q: Numbers) -> Reply {
+    if second == b'e' {
+        return reply::digest(reply::none(), digest::year(calendar, q.first));
+    }
+    reply::dated(calendar.at_ymd(q.first, q.second, q.third))
+}
+
+fn about_days(letter: u8, second: u8, calendar: Calendar, q: Numbers) -> Reply {
+    match letter {
+        b'p' => with_p(second, calendar, q),
+        b's' => reply::dated(after(calendar.at_jdn(q.first))),
+        b'w' => with_w(second, calendar, q),
+        b'd' => digest::days(calendar, q.first, q.second, q.third),
+        b'z' => zero(calendar.at_jdn(q.first)),
+        _ => reply::unreadable(),
+    }
+}
+
+fn about_months(letter: u8, second: u8, calendar: Calendar, q: Numbers) -> Reply {
+    let r = reply::none();
+    match letter {
+        b'm' => month(calendar, q.first, q.second),
+        b'h' => reply::told(r, months::contains(calendar, q.first, q.second, q.third)),
+        b'i' => reply::counted(r, months::day_ordinal(calendar, q.first, q.second, q.third)),
+        b'k' => reply::counted(r, months::nth_day(calendar, q.first, q.second, q.third)),
+        b'f' => reply::dated(months::nth_date(calendar, q.first, q.second, q.third)),
+        _ => about_days(letter, second, calendar, q),
+    }
+}
+
+fn about_dates(letter: u8, second: u8, calendar: Calendar, q: Numbers) -> Reply {
+    match letter {
+        b'j' => reply::dated(calendar.at_jdn(q.first)),
+        b'y' => with_y(second, calendar, q),
+        b'o' => reply::dated(calendar.at_ordinal_date(q.first, q.second)),
+        b'l' => reply::counted(reply::none(), months::year_length(calendar, q.first)),
+        b'r' => reformation(calendar),
+        _ => about_months(letter, second, calendar, q),
+    }
+}
+
+// The second calendar of a query is its third field.
+fn to_calendar(calendar: Calendar, line: &[u8], from: usize) -> Reply {
+    let jdn = query::signed_at(line, from);
+    match query::calendar_at(line, query::after_tab(line, from)) {
+        Head::Unreadable => reply::unreadable(),
+        Head::Refused(why) => reply::refused(why),
+        Head::Calendar(to, _) => reply::dated(converted(calendar.at_jdn(jdn), to)),
+    }
+}
+
+// Whether a query is `parse`, and not another with this letter.
+fn is_parse(letter: u8, second: u8) -> bool {
+    letter == b'p' && second == b'a'
+}
+
+fn with_calendar(calendar: Calendar, line: &[u8], from: usize) -> Reply {
+    let letter = query::byte_at(line, 0);
+    let second = query::byte_at(line, 1);
+    if is_parse(letter, second) {
+        return parse(calendar, line, from);
+    }
+    match letter {
+        b'u' => unix(unixtime::at_unix_time(calendar, query::long_at(line, from))),
+        b'c' => to_calendar(calendar, line, from),
+        _ => about_dates(letter, second, calendar, query::numbers_at(line, from)),
+    }
+}
+
+fn of_calendar(line: &[u8], from: usize) -> Reply {
+    match query::calendar_at(line, from) {
+        Head::Unreadable => reply::unreadable(),
+        Head::Refused(why) => reply::refused(why),
+        Head::Calendar(calendar, next) => with_calendar(calendar, line, next),
+    }
+}
+
+// Queries about a day number alone: `wd` and `sec`.
+fn of_day(letter: u8, jdn: i32) -> Reply {
+    if letter == b'w' {
+        return reply::count(reply::none(), calendar::Weekday::for_jdn(jdn));
+    }
+    reply::number(reply::none(), unixtime::jdn2unix(jdn))
+}
+
+fn is_of_day(letter: u8, second: u8) -> bool {
+    if letter == b'w' {
+        return second == b'd';
+    }
+    letter == b's' && second == b'e'
+}
+
+fn answer_to(line: &[u8]) -> Reply {
+    let letter = query::byte_at(line, 0);
+    let from = query::after_tab(line, 0);
+    if is_of_day(letter, query::byte_at(line, 1)) {
+        return of_day(letter, query::signed_at(line, from));
+    }
+    match letter {
+        b'n' => name(named(line, from)),
+        b't' => time(unixtime::unix2jdn(query::long_at(line, from))),
+        _ => of_calendar(line, from),
+    }
+}
+
+// ---- Lines and blocks
+
+// What is kept from byte to byte: the bytes of the line so far, and the bytes of the output that are not written yet.
+struct State {
+    line: usize,
+    out: usize,
+}
+
+fn flush(out: &[u8], n: usize) {
+    if n <= out.len() {
+        io::write_all(1, &out[0..n]);
+    }
+}
+
+// An answer has fewer than 512 bytes.
+fn room(out: &[u8], n: usize) -> usize {
+    if n < 65_024 {
+        return n;
+    }
+    flush(out, n);
+    0
+}
+
+fn answer(line: &[u8], n: usize, out: &mut [u8], used: usize) -> usize {
+    let at = room(out, used);
+    if n <= line.len() {
+        let end = put::reply(out, at, answer_to(&line[0..n]));
+        return put::line_end(out, end);
+    }
+    at
+}
+
+// Takes one byte. Of a line above 512 bytes the rest is left out.
+fn one(b: u8, line: &mut [u8], out: &mut [u8], n: usize, used: usize) -> State {
+    if b == 10 {
+        let end = answer(line, n, out, used);
+        return State { line: 0, out: end };
+    }
+    if n < line.len() {
+        line[n] = b;
+        return State {
+            line: n + 1,
+            out: used,
+        };
+    }
+    State { line: n, out: used }
+}
+
+fn feed(block: &[u8], line: &mut [u8], out: &mut [u8], start: State) -> State {
+    let mut s = start;
+    let mut i: usize = 0;
+    while i < block.len() {
+        s = one(block[i], line, out, s.line, s.out);
+        i += 1;
+    }
+    s
+}
+
+fn feed_front(block: &[u8], n: usize, line: &mut [u8], out: &mut [u8], start: State) -> State {
+    if n <= block.len() {
+        return feed(&block[0..n], line, out, start);
+    }
+    start
+}
+
+// The answers of a block are written before the next one is read, so that both sides can be run by one program over pipes.
+fn main() {
+    let mut block = io::large_buffer();
+    let mut out = io::large_buffer();
+    let mut line = [0u8; 512];
+    let mut n: usize = 0;
+    let mut turns = u64::MAX;
+    while turns > 0 {
+        let got = libc::read(0, &mut block);
+        if got <= 0 {
+            break;
+        }
+        let count = io::count(got, &block);
+        let s = feed_front(
+            &block,
+            count,
+            &mut line,
+            &mut out,
+            State { line: n, out: 0 },
+        );
+        flush(&out, s.out);
+        n = s.line;
+        turns -= 1;
+    }
+}
