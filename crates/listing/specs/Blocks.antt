@@ -85,7 +85,7 @@ going-next {b} {s} {from} i k g h n = subst (Going b s from) (sum i k) (going-on
 
 -- ---- the parts of a line
 
-pub entry-tabbed : {l : List ℕ} {k : ℕ} → UpTo tab l 0 k → k < length l → Entry l (take k l) (drop (k + 1) l)
+entry-tabbed : {l : List ℕ} {k : ℕ} → UpTo tab l 0 k → k < length l → Entry l (take k l) (drop (k + 1) l)
 entry-tabbed {l} {k} (UpTo.stands {q} u e w p) h =
     subst (λ (x : List ℕ). Entry x (take k x) (drop (k + 1) x)) (sym e)
     (subst (λ (x : List ℕ). Entry (q ++ (tab ∷ u)) x (drop (k + 1) (q ++ (tab ∷ u)))) (sym (take-at q (tab ∷ u) k (omega arith)))
@@ -95,7 +95,7 @@ entry-tabbed {l} {k} (UpTo.stands {q} u e w p) h =
     rest = ap (drop (k + 1)) (sym (append-assoc q (tab ∷ []) u)) ∙ drop-at (q ++ (tab ∷ [])) u (k + 1) (length-append q (tab ∷ []) ∙ omega arith)
 entry-tabbed {l} {k} (UpTo.ends {q} e w p) h = absurd (omega (arith, ap length e))
 
-pub entry-bare : {l : List ℕ} {k : ℕ} → UpTo tab l 0 k → length l ≤ k → Entry l (take k l) (drop k l)
+entry-bare : {l : List ℕ} {k : ℕ} → UpTo tab l 0 k → length l ≤ k → Entry l (take k l) (drop k l)
 entry-bare {l} {k} (UpTo.stands {q} u e w p) h = absurd (omega (arith, ap length e, length-append q (tab ∷ u)))
 entry-bare {l} {k} (UpTo.ends {q} e w p) h =
     let n : k ≡ length l = omega (arith, ap length e) in
@@ -103,9 +103,14 @@ entry-bare {l} {k} (UpTo.ends {q} e w p) h =
     (subst (λ (x : List ℕ). Entry l x (drop (length l) l)) (sym (take-length l))
     (subst (Entry l l) (sym (drop-length l)) (bare (subst (Without tab) (sym e) w))))
 
--- the name of a line, whatever its text
-pub entry-some : {l : List ℕ} {k : ℕ} → UpTo tab l 0 k → (t : List ℕ) × Entry l (take k l) t
-entry-some {l} {k} b = ⊎-elim (λ h. (drop (k + 1) l, entry-tabbed b h)) (λ h. (drop k l, entry-bare b h)) (lt-or-ge k (length l))
+-- where the text begins, when the first tab, or the end of a line of n bytes, is at k
+pub data TextFrom (n k : ℕ) (r : ℕ) : Type 0 where
+  after-tab : k < n → r ≡ k + 1 → TextFrom n k r
+  at-end : n ≤ k → r ≡ k → TextFrom n k r
+
+pub entry-from : {l : List ℕ} {k r : ℕ} → UpTo tab l 0 k → TextFrom (length l) k r → Entry l (take k l) (drop r l)
+entry-from {l} {k} b (TextFrom.after-tab h e) = subst (λ (i : ℕ). Entry l (take k l) (drop i l)) (sym e) (entry-tabbed b h)
+entry-from {l} {k} b (TextFrom.at-end h e) = subst (λ (i : ℕ). Entry l (take k l) (drop i l)) (sym e) (entry-bare b h)
 
 -- a part of a slice that goes on to its end
 pub to-the-end : (k : ℕ) (s : List ℕ) → take (length s - k) (drop k s) ≡ drop k s

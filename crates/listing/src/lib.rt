@@ -6,7 +6,7 @@ ghost use Prim.Native.Nat.{_+_, _<_, _≤_};
 ghost use lib.ListN.{length, take};
 ghost use Rattle.datetext.specs.Writing.{Writes};
 ghost use Rattle.listing.specs.Lines.{header, LineAnswer, Listed};
-ghost use Rattle.listing.specs.Blocks.{UpTo, Fills, HeldAnswer, HeldLine, Wrote, LastLine, stand, Turn, Lists};
+ghost use Rattle.listing.specs.Blocks.{UpTo, TextFrom, Fills, HeldAnswer, HeldLine, Wrote, LastLine, stand, Turn, Lists};
 use calendar::Dated;
 use calendar::Reformed;
 use datetext::Written;
@@ -53,6 +53,17 @@ fn up_to(s: &[u8], from: usize, b: u8) -> usize
     next_to(s, i, b)
 }
 
+// Where the text of a line begins: after the tab, or at the line's end.
+fn text_from(len: usize, tab: usize) -> usize
+    requires { ⌜ tab ≤ len ⌝ }
+    ensures { λ r. ⌜ (TextFrom len tab r) × (r ≤ len) ⌝ }
+{
+    if tab < len {
+        return tab + 1;
+    }
+    tab
+}
+
 // The day that a line names, or why it names none.
 pub fn line_answer(line: &[u8]) -> Dated
     ensures { λ a. ⌜ LineAnswer (now (line .entry)) a ⌝ }
@@ -61,15 +72,10 @@ pub fn line_answer(line: &[u8]) -> Dated
         return Dated::Refused(calendar::refusal_of(20, 0));
     }
     let tab = up_to(line, 0, 9);
+    let text = text_from(line.len(), tab);
     match ncal::named(&line[..tab]) {
         Reformed::Refused(why) => Dated::Refused(why),
-        Reformed::Calendar(calendar) => {
-            if tab < line.len() {
-                let text = tab + 1;
-                return dateparse::parse_date(calendar, &line[text..]);
-            }
-            dateparse::parse_date(calendar, &line[tab..])
-        }
+        Reformed::Calendar(calendar) => dateparse::parse_date(calendar, &line[text..]),
     }
 }
 
