@@ -67,16 +67,16 @@ fn put_small(out: &mut [u8], at: usize, n: u64) -> usize
     requires { ⌜ (at + 4 ≤ length (now out)) × (n < 10000) ⌝ }
     ensures { λ r. ⌜ Text (Signs false n) 4 (now (out .entry)) at (now (out .exit)) r ⌝ }
 {
-    if n < 10 {
-        return put_digit(out, at, n);
+    if 1000 <= n {
+        return put_four(out, at, n);
     }
-    if n < 100 {
-        return put_two(out, at, n);
-    }
-    if n < 1000 {
+    if 100 <= n {
         return put_three(out, at, n);
     }
-    put_four(out, at, n)
+    if 10 <= n {
+        return put_two(out, at, n);
+    }
+    put_digit(out, at, n)
 }
 
 fn put_large(out: &mut [u8], at: usize, n: u64) -> usize
@@ -104,7 +104,7 @@ fn put_natural(out: &mut [u8], at: usize, n: u64) -> usize
     put_large(out, at, n)
 }
 
-// Months, days and weekdays have one digit or two.
+// Ordinals, months, days and weekdays have at most three digits.
 fn put_few(out: &mut [u8], at: usize, n: u64) -> usize
     requires { ⌜ at + 20 ≤ length (now out) ⌝ }
     ensures { λ r. ⌜ Text (Signs false n) 20 (now (out .entry)) at (now (out .exit)) r ⌝ }
@@ -114,6 +114,9 @@ fn put_few(out: &mut [u8], at: usize, n: u64) -> usize
     }
     if n < 100 {
         return put_two(out, at, n);
+    }
+    if n < 1000 {
+        return put_three(out, at, n);
     }
     put_natural(out, at, n)
 }

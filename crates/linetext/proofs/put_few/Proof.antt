@@ -28,14 +28,23 @@ same-length-2 c = search needs
 returns-2 : tie.Need-returns-2
 returns-2 c = so-number 1 _ (c .before .before .before .before .if2 .taken) (λ h. c .before .before .before .before .before .if1 .left) (omega arith) (c .before .before .put-two .ensures)
 
-put-natural-requires : tie.Need-put-natural-requires
-put-natural-requires c κs = search needs
+put-three-requires : tie.Need-put-three-requires
+put-three-requires c κs = search needs
 
 same-length-3 : tie.Need-same-length-3
 same-length-3 c = search needs
 
 returns-3 : tie.Need-returns-3
-returns-3 c = search needs
+returns-3 c = so-number 2 _ (c .before .before .before .before .if3 .taken) (λ h. c .before .before .before .before .before .if2 .left) (omega arith) (c .before .before .put-three .ensures)
+
+put-natural-requires : tie.Need-put-natural-requires
+put-natural-requires c κs = search needs
+
+same-length-4 : tie.Need-same-length-4
+same-length-4 c = search needs
+
+returns-4 : tie.Need-returns-4
+returns-4 c = search needs
 
 pub put-few-spec : {M : Type 1} → statement M
 put-few-spec =
@@ -47,6 +56,9 @@ put-few-spec =
     put-two-requires
     same-length-2
     returns-2
-    put-natural-requires
+    put-three-requires
     same-length-3
-    returns-3)
+    returns-3
+    put-natural-requires
+    same-length-4
+    returns-4)
