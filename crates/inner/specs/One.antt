@@ -83,7 +83,8 @@ ordinal-one (no-ordinal n) (no-ordinal m) = refl
 
 -- ---- Of days and years that are held as naturals
 
--- a day has one year and one ordinal: its label tells the year, and the first day of that year tells the ordinal
+-- a day has one year and one ordinal: its label tells the year, and the first day of that year tells the ordinal. The starts are
+-- `J.starts` and `G.starts` of `days`.
 pub spot-one : {c : Reckoning} {leapAt : ℕ → Bool} {start : ℕ → ℕ} → Starts c leapAt start → {k : ℕ} (y z : ℕ) {o p : ℕ}
     → Spot leapAt start k (heldYear y) o → Spot leapAt start k (heldYear z) p → (y ≡ z) × (o ≡ p)
 spot-one {start = start} s {k} y z {o} {p} a b =
