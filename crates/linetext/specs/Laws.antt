@@ -1,7 +1,7 @@
 -- Numbers written one after another into a lent buffer, and a whole line of them.
 -- Assumes nothing.
 use Prim.Native.Nat.{ℕ, zero, suc, _+_, _/_, _%_, _≤_, _<_, _^_}
-use mathlib.Core.Path.{_≡_, refl, sym, _∙_, ap, subst}
+use mathlib.Core.Path.{_≡_, refl, sym, _∙_, ap, ap₂, subst}
 use mathlib.Core.Bool.{Bool, true, false}
 use mathlib.Core.List.{List, [], _∷_, _++_, append-assoc}
 use native.Mathlib.Omega.{arith}
@@ -57,6 +57,43 @@ so-text {t = t} p h s = record { text = t; is = p; short = h; so = s }
 pub so-digit : (k n : ℕ) {b : List ℕ} {at : ℕ} {b₁ b₂ : List ℕ} {i j : ℕ} → at + suc k ≤ length b → So b at (digitsOf k (n / 10)) b₁ i → So b₁ i (digitsOf 1 n) b₂ j → So b at (digitsOf (suc k) n) b₂ j
 so-digit k n h s r = so-on s (digitsOf 1 n) (omega (arith, length-digits k (n / 10), length-digits 1 n)) r
 
+-- the last two digits of a number are those of its rest at a division by 100, and the last four those at 10000
+last-two : (n : ℕ) → digitsOf 2 (n % 100) ≡ digitsOf 2 n
+last-two n = ap₂ (λ (x y : ℕ). (48 + x) ∷ ((48 + y) ∷ [])) (tens n) (ones n)
+  where
+    tens : (n : ℕ) → n % 100 / 10 % 10 ≡ n / 10 % 10
+    tens n = omega arith
+
+    ones : (n : ℕ) → n % 100 % 10 ≡ n % 10
+    ones n = omega arith
+
+last-four : (n : ℕ) → digitsOf 4 (n % 10000) ≡ digitsOf 4 n
+last-four n = ap₂ (λ (x y : ℕ). (48 + x) ∷ ((48 + y) ∷ digitsOf 2 (n % 10000))) (thousands n) (hundreds n) ∙ ap₂ (λ (x y : ℕ). (48 + n / 10 / 10 / 10 % 10) ∷ ((48 + n / 10 / 10 % 10) ∷ ((48 + x) ∷ ((48 + y) ∷ [])))) (tens n) (ones n)
+  where
+    thousands : (n : ℕ) → n % 10000 / 10 / 10 / 10 % 10 ≡ n / 10 / 10 / 10 % 10
+    thousands n = omega arith
+
+    hundreds : (n : ℕ) → n % 10000 / 10 / 10 % 10 ≡ n / 10 / 10 % 10
+    hundreds n = omega arith
+
+    tens : (n : ℕ) → n % 10000 / 10 % 10 ≡ n / 10 % 10
+    tens n = omega arith
+
+    ones : (n : ℕ) → n % 10000 % 10 ≡ n % 10
+    ones n = omega arith
+
+-- the digits before the last two, and those
+pub so-pair : (k n : ℕ) {b : List ℕ} {at : ℕ} {b₁ b₂ : List ℕ} {i j : ℕ} → at + suc (suc k) ≤ length b → So b at (digitsOf k (n / 100)) b₁ i → So b₁ i (digitsOf 2 (n % 100)) b₂ j → So b at (digitsOf (suc (suc k)) n) b₂ j
+so-pair k n {b} {at} {b₂ = b₂} {j = j} h s r =
+    subst (λ (t : List ℕ). So b at t b₂ j) (ap (λ (x : List ℕ). digitsOf k (n / 100) ++ x) (last-two n) ∙ parts)
+    (so-on s (digitsOf 2 (n % 100)) (omega (arith, length-digits k (n / 100), length-digits 2 (n % 100))) r)
+  where
+    hundred : (n : ℕ) → n / 100 ≡ n / 10 / 10
+    hundred n = omega arith
+
+    parts : digitsOf k (n / 100) ++ digitsOf 2 n ≡ digitsOf (suc (suc k)) n
+    parts = ap (λ (q : ℕ). digitsOf k q ++ digitsOf 2 n) (hundred n) ∙ sym (append-assoc (digitsOf k (n / 10 / 10)) ((48 + n / 10 % 10) ∷ []) ((48 + n % 10) ∷ []))
+
 -- all digits of a number
 pub so-number : (k n : ℕ) {b : List ℕ} {at : ℕ} {b′ : List ℕ} {i m : ℕ} → n < 10 ^ suc k → (1 ≤ k → 10 ^ k ≤ n) → suc k ≤ m → So b at (digitsOf (suc k) n) b′ i → Text (Signs false n) m b at b′ i
 so-number k n l g h s = so-text (Signs.signs (record { less = k; is = refl; below = l; least = g })) (omega (arith, length-digits (suc k) n)) s
@@ -74,8 +111,8 @@ four-on j n = sym (ap (λ (k : ℕ). digitsOf k n) (sucs j) ∙ parts ∙ ap (λ
     parts = simp append-assoc
 
 -- the digits above the last four, and those
-pub so-eight : {n : ℕ} {b : List ℕ} {at : ℕ} {b₁ b₂ : List ℕ} {i j : ℕ} → 10000 ≤ n → at + 8 ≤ length b → Text (Signs false (n / 10000)) 4 b at b₁ i → So b₁ i (digitsOf 4 n) b₂ j → Text (Signs false n) 20 b at b₂ j
-so-eight {n} h l t s = text-as (text-then t (so-text {P = λ (v : List ℕ). v ≡ digitsOf 4 n} {m = 4} refl (omega (arith, length-digits 4 n)) s) both (omega arith)) (λ u p. p) (omega arith)
+pub so-eight : {n : ℕ} {b : List ℕ} {at : ℕ} {b₁ b₂ : List ℕ} {i j : ℕ} → 10000 ≤ n → at + 8 ≤ length b → Text (Signs false (n / 10000)) 4 b at b₁ i → So b₁ i (digitsOf 4 (n % 10000)) b₂ j → Text (Signs false n) 20 b at b₂ j
+so-eight {n} h l t s = text-as (text-then t (so-text {P = λ (v : List ℕ). v ≡ digitsOf 4 n} {m = 4} (last-four n) (omega (arith, length-digits 4 (n % 10000))) s) both (omega arith)) (λ u p. p) (omega arith)
   where
     both : (u v : List ℕ) → Signs false (n / 10000) u → v ≡ digitsOf 4 n → Signs false n (u ++ v)
     both u v (Signs.signs {k} w) e =

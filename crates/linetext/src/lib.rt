@@ -50,16 +50,16 @@ fn put_three(out: &mut [u8], at: usize, n: u64) -> usize
     requires { ⌜ at + 3 ≤ length (now out) ⌝ }
     ensures { λ r. ⌜ So (now (out .entry)) at (digitsOf 3 n) (now (out .exit)) r ⌝ }
 {
-    let next = put_two(out, at, n / 10);
-    put_digit(out, next, n)
+    let next = put_digit(out, at, n / 100);
+    put_two(out, next, n % 100)
 }
 
 fn put_four(out: &mut [u8], at: usize, n: u64) -> usize
     requires { ⌜ at + 4 ≤ length (now out) ⌝ }
     ensures { λ r. ⌜ So (now (out .entry)) at (digitsOf 4 n) (now (out .exit)) r ⌝ }
 {
-    let next = put_three(out, at, n / 10);
-    put_digit(out, next, n)
+    let next = put_two(out, at, n / 100);
+    put_two(out, next, n % 100)
 }
 
 // A number below ten thousand.
@@ -67,16 +67,16 @@ fn put_small(out: &mut [u8], at: usize, n: u64) -> usize
     requires { ⌜ (at + 4 ≤ length (now out)) × (n < 10000) ⌝ }
     ensures { λ r. ⌜ Text (Signs false n) 4 (now (out .entry)) at (now (out .exit)) r ⌝ }
 {
-    if n < 10 {
-        return put_digit(out, at, n);
+    if 1000 <= n {
+        return put_four(out, at, n);
     }
-    if n < 100 {
-        return put_two(out, at, n);
-    }
-    if n < 1000 {
+    if 100 <= n {
         return put_three(out, at, n);
     }
-    put_four(out, at, n)
+    if 10 <= n {
+        return put_two(out, at, n);
+    }
+    put_digit(out, at, n)
 }
 
 fn put_large(out: &mut [u8], at: usize, n: u64) -> usize
@@ -99,9 +99,26 @@ fn put_natural(out: &mut [u8], at: usize, n: u64) -> usize
     }
     if n < 100_000_000 {
         let next = put_small(out, at, n / 10_000);
-        return put_four(out, next, n);
+        return put_four(out, next, n % 10_000);
     }
     put_large(out, at, n)
+}
+
+// Ordinals, months, days and weekdays have at most three digits.
+fn put_few(out: &mut [u8], at: usize, n: u64) -> usize
+    requires { ⌜ at + 20 ≤ length (now out) ⌝ }
+    ensures { λ r. ⌜ Text (Signs false n) 20 (now (out .entry)) at (now (out .exit)) r ⌝ }
+{
+    if n < 10 {
+        return put_digit(out, at, n);
+    }
+    if n < 100 {
+        return put_two(out, at, n);
+    }
+    if n < 1000 {
+        return put_three(out, at, n);
+    }
+    put_natural(out, at, n)
 }
 
 fn put_signed(out: &mut [u8], at: usize, negative: bool, n: u64) -> usize
@@ -120,7 +137,7 @@ fn put_count(out: &mut [u8], at: usize, n: u64, after: u8) -> usize
     requires { ⌜ at + 22 ≤ length (now out) ⌝ }
     ensures { λ r. ⌜ Column (pos n) after (now (out .entry)) at (now (out .exit)) r ⌝ }
 {
-    let next = put_natural(out, at, n);
+    let next = put_few(out, at, n);
     put_byte(out, next, after)
 }
 

@@ -35,9 +35,9 @@ pub record Going (b : ℕ) (s : List ℕ) (from i : ℕ) : Type 0 where
   pub place : i ≡ from + length passed
   pub inside : i ≤ length s
 
-without-more : {b x : ℕ} {s : List ℕ} → Without b s → (x ≡ b → ⊥) → Without b (s ++ (x ∷ []))
-without-more Without.none n = Without.more n Without.none
-without-more (Without.more m w) n = Without.more m (without-more w n)
+pub without-both : {b : ℕ} {p q : List ℕ} → Without b p → Without b q → Without b (p ++ q)
+without-both Without.none v = v
+without-both (Without.more n w) v = Without.more n (without-both w v)
 
 pub going-start : (b : ℕ) (s : List ℕ) (from : ℕ) → from ≤ length s → Going b s from from
 going-start b s from h = record { passed = []; is = refl; without = Without.none; place = omega arith; inside = h }
@@ -48,7 +48,7 @@ module _ {b : ℕ} {s : List ℕ} {from i : ℕ} (g : Going b s from i) where
       record {
         passed = g .passed ++ (getD s i 0 ∷ []);
         is = g .is ∙ ap (λ (x : List ℕ). g .passed ++ x) (drop-cons s i 0 h) ∙ sym (append-assoc (g .passed) (getD s i 0 ∷ []) (drop (suc i) s)) ∙ ap (λ (k : ℕ). (g .passed ++ (getD s i 0 ∷ [])) ++ drop k s) one-on;
-        without = without-more (g .without) n;
+        without = without-both (g .without) (Without.more n Without.none);
         place = omega (arith, g .place, length-append (g .passed) (getD s i 0 ∷ []));
         inside = omega arith;
       }
@@ -65,9 +65,27 @@ module _ {b : ℕ} {s : List ℕ} {from i : ℕ} (g : Going b s from i) where
       none : drop i s ≡ []
       none = let e : i ≡ length s = omega (arith, g .inside) in ap (λ (k : ℕ). drop k s) e ∙ drop-length s
 
+  -- and what is found from there on is found from the beginning
+  pub going-then : {r : ℕ} → UpTo b s i r → UpTo b s from r
+  going-then (UpTo.stands {q} u e w p) = UpTo.stands u (g .is ∙ ap (λ (x : List ℕ). g .passed ++ x) e ∙ sym (append-assoc (g .passed) q (b ∷ u))) (without-both (g .without) w) (far q p)
+    where
+      far : {r : ℕ} (q : List ℕ) → r ≡ i + length q → r ≡ from + length (g .passed ++ q)
+      far q p = omega (arith, p, g .place, length-append (g .passed) q)
+  going-then (UpTo.ends {q} e w p) = UpTo.ends (g .is ∙ ap (λ (x : List ℕ). g .passed ++ x) e) (without-both (g .without) w) (far q p)
+    where
+      far : {r : ℕ} (q : List ℕ) → r ≡ i + length q → r ≡ from + length (g .passed ++ q)
+      far q p = omega (arith, p, g .place, length-append (g .passed) q)
+
+-- one byte further, counted from i
+pub going-next : {b : ℕ} {s : List ℕ} {from : ℕ} (i k : ℕ) → Going b s from (i + k) → i + k < length s → (getD s (i + k) 0 ≡ b → ⊥) → Going b s from (i + suc k)
+going-next {b} {s} {from} i k g h n = subst (Going b s from) (sum i k) (going-on g h n)
+  where
+    sum : (i k : ℕ) → i + k + 1 ≡ i + suc k
+    sum i k = omega arith
+
 -- ---- the parts of a line
 
-pub entry-tabbed : {l : List ℕ} {k : ℕ} → UpTo tab l 0 k → k < length l → Entry l (take k l) (drop (k + 1) l)
+entry-tabbed : {l : List ℕ} {k : ℕ} → UpTo tab l 0 k → k < length l → Entry l (take k l) (drop (k + 1) l)
 entry-tabbed {l} {k} (UpTo.stands {q} u e w p) h =
     subst (λ (x : List ℕ). Entry x (take k x) (drop (k + 1) x)) (sym e)
     (subst (λ (x : List ℕ). Entry (q ++ (tab ∷ u)) x (drop (k + 1) (q ++ (tab ∷ u)))) (sym (take-at q (tab ∷ u) k (omega arith)))
@@ -77,7 +95,7 @@ entry-tabbed {l} {k} (UpTo.stands {q} u e w p) h =
     rest = ap (drop (k + 1)) (sym (append-assoc q (tab ∷ []) u)) ∙ drop-at (q ++ (tab ∷ [])) u (k + 1) (length-append q (tab ∷ []) ∙ omega arith)
 entry-tabbed {l} {k} (UpTo.ends {q} e w p) h = absurd (omega (arith, ap length e))
 
-pub entry-bare : {l : List ℕ} {k : ℕ} → UpTo tab l 0 k → length l ≤ k → Entry l (take k l) (drop k l)
+entry-bare : {l : List ℕ} {k : ℕ} → UpTo tab l 0 k → length l ≤ k → Entry l (take k l) (drop k l)
 entry-bare {l} {k} (UpTo.stands {q} u e w p) h = absurd (omega (arith, ap length e, length-append q (tab ∷ u)))
 entry-bare {l} {k} (UpTo.ends {q} e w p) h =
     let n : k ≡ length l = omega (arith, ap length e) in
@@ -85,9 +103,14 @@ entry-bare {l} {k} (UpTo.ends {q} e w p) h =
     (subst (λ (x : List ℕ). Entry l x (drop (length l) l)) (sym (take-length l))
     (subst (Entry l l) (sym (drop-length l)) (bare (subst (Without tab) (sym e) w))))
 
--- the name of a line, whatever its text
-pub entry-some : {l : List ℕ} {k : ℕ} → UpTo tab l 0 k → (t : List ℕ) × Entry l (take k l) t
-entry-some {l} {k} b = ⊎-elim (λ h. (drop (k + 1) l, entry-tabbed b h)) (λ h. (drop k l, entry-bare b h)) (lt-or-ge k (length l))
+-- where the text begins, when the first tab, or the end of a line of n bytes, is at k
+pub data TextFrom (n k : ℕ) (r : ℕ) : Type 0 where
+  after-tab : k < n → r ≡ k + 1 → TextFrom n k r
+  at-end : n ≤ k → r ≡ k → TextFrom n k r
+
+pub entry-from : {l : List ℕ} {k r : ℕ} → UpTo tab l 0 k → TextFrom (length l) k r → Entry l (take k l) (drop r l)
+entry-from {l} {k} b (TextFrom.after-tab h e) = subst (λ (i : ℕ). Entry l (take k l) (drop i l)) (sym e) (entry-tabbed b h)
+entry-from {l} {k} b (TextFrom.at-end h e) = subst (λ (i : ℕ). Entry l (take k l) (drop i l)) (sym e) (entry-bare b h)
 
 -- a part of a slice that goes on to its end
 pub to-the-end : (k : ℕ) (s : List ℕ) → take (length s - k) (drop k s) ≡ drop k s

@@ -18,7 +18,7 @@ use Rattle.datetext.specs.Writing.{put}
 use Rattle.datetext.specs.Puts.{put-none, put-then, length-put}
 use Rattle.listing.specs.Lines.{header, Without, Lines, LineAnswer, Listed, listed, AllListed, Listing, listing}
 use Rattle.linetext.specs.Line.{newline}
-use Rattle.listing.specs.Blocks.{Fills, HeldAnswer, HeldLine, LastLine, Stand, stand, Turn, Lists}
+use Rattle.listing.specs.Blocks.{without-both, Fills, HeldAnswer, HeldLine, LastLine, Stand, stand, Turn, Lists}
 use Rattle.listing.specs.One.{listing-one}
 
 -- ---- the lines that end in the bytes s, where p was unfinished before them, and what is unfinished after them
@@ -26,10 +26,6 @@ use Rattle.listing.specs.One.{listing-one}
 pub data Cuts : List ℕ → List ℕ → List (List ℕ) → List ℕ → Type 0 where
   rest : {p q : List ℕ} → Without newline q → Cuts p q [] (p ++ q)
   line : {p q s : List ℕ} {ls : List (List ℕ)} {r : List ℕ} → Without newline q → Cuts [] s ls r → Cuts p (q ++ (newline ∷ s)) ((p ++ q) ∷ ls) r
-
-without-both : {b : ℕ} {p q : List ℕ} → Without b p → Without b q → Without b (p ++ q)
-without-both Without.none v = v
-without-both (Without.more n w) v = Without.more n (without-both w v)
 
 cuts-first : {p q t : List ℕ} {ms : List (List ℕ)} {r : List ℕ} (i : List ℕ) → i ≡ p ++ q → Without newline q → Cuts i t ms r → Cuts p (q ++ t) ms r
 cuts-first {p} {q} i e w (Cuts.rest {q = t} v) = subst (Cuts p (q ++ t) []) (sym (ap (λ (x : List ℕ). x ++ t) e ∙ append-assoc p q t)) (Cuts.rest (without-both w v))

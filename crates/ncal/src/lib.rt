@@ -226,61 +226,52 @@ fn stands_at(name: &[u8], letters: &[u8], at: usize) -> bool
     true
 }
 
-// The calendars of the names of 5 and 6 letters, of 7, and of more.
-const SHORT_CALENDARS: [Calendar; 14] = [
-    CHINA,
-    ITALY,
-    JAPAN,
-    SPAIN,
-    Calendar::JULIAN,
-    CANADA,
-    FRANCE,
-    GREECE,
-    LATVIA,
-    NORWAY,
-    POLAND,
-    RUSSIA,
-    SWEDEN,
-    TURKEY,
-];
+// The calendars of the names, in their order. An array is built anew where it is read, so these are short.
+const OF_FIVE_LETTERS: [Calendar; 4] = [CHINA, ITALY, JAPAN, SPAIN];
 
-const SEVEN_CALENDARS: [Calendar; 9] = [
-    ALBANIA,
-    AUSTRIA,
-    BELGIUM,
-    DENMARK,
-    FINLAND,
-    GERMANY,
-    HUNGARY,
-    ICELAND,
-    ROMANIA,
-];
+const OF_SIX_TO_LATVIA: [Calendar; 5] = [Calendar::JULIAN, CANADA, FRANCE, GREECE, LATVIA];
 
-const LONG_CALENDARS: [Calendar; 13] = [
-    BULGARIA,
-    PORTUGAL,
-    SLOVENIA,
-    Calendar::GREGORIAN,
-    AUSTRALIA,
-    LITHUANIA,
-    LUXEMBOURG,
-    YUGOSLAVIA,
-    NETHERLANDS,
-    SWITZERLAND,
-    UNITED_STATES,
-    CZECH_REPUBLIC,
-    UNITED_KINGDOM,
-];
+const OF_SIX_FROM_NORWAY: [Calendar; 5] = [NORWAY, POLAND, RUSSIA, SWEDEN, TURKEY];
+
+const OF_SEVEN_TO_FINLAND: [Calendar; 5] = [ALBANIA, AUSTRIA, BELGIUM, DENMARK, FINLAND];
+
+const OF_SEVEN_FROM_GERMANY: [Calendar; 4] = [GERMANY, HUNGARY, ICELAND, ROMANIA];
+
+const OF_EIGHT_LETTERS: [Calendar; 3] = [BULGARIA, PORTUGAL, SLOVENIA];
+
+const OF_NINE_LETTERS: [Calendar; 3] = [Calendar::GREGORIAN, AUSTRALIA, LITHUANIA];
+
+const OF_TEN_AND_ELEVEN: [Calendar; 4] = [LUXEMBOURG, YUGOSLAVIA, NETHERLANDS, SWITZERLAND];
+
+const OF_MORE_LETTERS: [Calendar; 3] = [UNITED_STATES, CZECH_REPUBLIC, UNITED_KINGDOM];
 
 fn calendar_at(k: usize) -> Calendar
     requires { ⌜ k < 36 ⌝ }
     ensures { λ c. ⌜ c ≡ calendarAt k ⌝ }
 {
+    if k < 4 {
+        return OF_FIVE_LETTERS[k];
+    }
+    if k < 9 {
+        return OF_SIX_TO_LATVIA[k - 4];
+    }
     if k < 14 {
-        return SHORT_CALENDARS[k];
+        return OF_SIX_FROM_NORWAY[k - 9];
+    }
+    if k < 19 {
+        return OF_SEVEN_TO_FINLAND[k - 14];
     }
     if k < 23 {
-        return SEVEN_CALENDARS[k - 14];
+        return OF_SEVEN_FROM_GERMANY[k - 19];
     }
-    LONG_CALENDARS[k - 23]
+    if k < 26 {
+        return OF_EIGHT_LETTERS[k - 23];
+    }
+    if k < 29 {
+        return OF_NINE_LETTERS[k - 26];
+    }
+    if k < 33 {
+        return OF_TEN_AND_ELEVEN[k - 29];
+    }
+    OF_MORE_LETTERS[k - 33]
 }

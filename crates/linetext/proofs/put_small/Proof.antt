@@ -1,64 +1,64 @@
 -- `linetext::put_small` meets its contract: the comparisons tell how many digits there are.
 -- Assumes nothing.
-use Prim.Native.Nat.{_≤_}
-use native.Mathlib.Omega.{arith}
 use Rattle.linetext.specs.Laws.{so-number}
+use native.Mathlib.Omega.{arith}
+use Prim.Native.Nat.{_≤_}
 use borrow.Author.Needs.{needs}
 use Rattle.linetext.proofs.put_small.Statement.{statement}
 use Rattle.linetext.proofs.put_small.Tie as tie
 
-put-digit-requires : tie.Need-put-digit-requires
-put-digit-requires c κs = search needs
+put-four-requires : tie.Need-put-four-requires
+put-four-requires c κs = search needs
 
 same-length : tie.Need-same-length
 same-length c = search needs
 
 returns : tie.Need-returns
-returns c = so-number 0 _ (c .before .before .before .before .if1 .taken) (λ h. absurd (none h)) (omega arith) (c .before .before .put-digit .ensures)
-  where
-    none : 1 ≤ 0 → ⊥
-    none h = omega arith
+returns c = so-number 3 _ (c .before .before .before .before .before .before .pre .1) (λ h. c .before .before .before .before .if1 .taken) (omega arith) (c .before .before .put-four .ensures)
 
-put-two-requires : tie.Need-put-two-requires
-put-two-requires c κs = search needs
+put-three-requires : tie.Need-put-three-requires
+put-three-requires c κs = search needs
 
 same-length-2 : tie.Need-same-length-2
 same-length-2 c = search needs
 
 returns-2 : tie.Need-returns-2
-returns-2 c = so-number 1 _ (c .before .before .before .before .if2 .taken) (λ h. c .before .before .before .before .before .if1 .left) (omega arith) (c .before .before .put-two .ensures)
+returns-2 c = so-number 2 _ (c .before .before .before .before .before .if1 .left) (λ h. c .before .before .before .before .if2 .taken) (omega arith) (c .before .before .put-three .ensures)
 
-put-three-requires : tie.Need-put-three-requires
-put-three-requires c κs = search needs
+put-two-requires : tie.Need-put-two-requires
+put-two-requires c κs = search needs
 
 same-length-3 : tie.Need-same-length-3
 same-length-3 c = search needs
 
 returns-3 : tie.Need-returns-3
-returns-3 c = so-number 2 _ (c .before .before .before .before .if3 .taken) (λ h. c .before .before .before .before .before .if2 .left) (omega arith) (c .before .before .put-three .ensures)
+returns-3 c = so-number 1 _ (c .before .before .before .before .before .if2 .left) (λ h. c .before .before .before .before .if3 .taken) (omega arith) (c .before .before .put-two .ensures)
 
-put-four-requires : tie.Need-put-four-requires
-put-four-requires c κs = search needs
+put-digit-requires : tie.Need-put-digit-requires
+put-digit-requires c κs = search needs
 
 same-length-4 : tie.Need-same-length-4
 same-length-4 c = search needs
 
 returns-4 : tie.Need-returns-4
-returns-4 c = so-number 3 _ (c .before .before .before .before .before .before .before .before .pre .1) (λ h. c .before .before .before .before .if3 .left) (omega arith) (c .before .before .put-four .ensures)
+returns-4 c = so-number 0 _ (c .before .before .before .before .if3 .left) (λ h. absurd (none h)) (omega arith) (c .before .before .put-digit .ensures)
+  where
+    none : 1 ≤ 0 → ⊥
+    none h = omega arith
 
 pub put-small-spec : {M : Type 1} → statement M
 put-small-spec =
     tie.close
     (tie.spec
-    put-digit-requires
+    put-four-requires
     same-length
     returns
-    put-two-requires
+    put-three-requires
     same-length-2
     returns-2
-    put-three-requires
+    put-two-requires
     same-length-3
     returns-3
-    put-four-requires
+    put-digit-requires
     same-length-4
     returns-4)
