@@ -8,10 +8,12 @@ use Rattle.days.specs.DayByDay.{Label, label, OfYear, Place, Is32Bit}
 use Rattle.days.specs.Rising.{once, place-one, nth-one}
 use Rattle.days.specs.Calendars.{accepted-rises}
 use Rattle.days.specs.Table.{judged-one}
+use Rattle.days.specs.Runs.{runs-one}
 use Rattle.calendar.specs.declared.Calendar.{Calendar}
 use Rattle.calendar.specs.declared.Calendar.the-variants as Calendar′
 use Rattle.calendar.specs.declared.Date.{Date}
 use Rattle.calendar.specs.declared.Reformed.{Reformed}
+use Rattle.calendar.specs.declared.Switch.the-variants as Switch′
 use Rattle.calendar.specs.declared.Dated.{Dated}
 use Rattle.calendar.specs.declared.Dated.the-variants as Dated′
 use Rattle.calendar.specs.declared.ReformDate.{ReformDate}
@@ -19,6 +21,7 @@ use Rattle.calendar.specs.declared.ReformDate.the-variants as ReformDate
 use Rattle.calendar.specs.Calendars.{labels, Accepted, IsRecord, Genuine}
 use Rattle.calendar.specs.Rows.{One, unless-one, if-one, answers-one}
 use Rattle.calendar.specs.Promise.{outcomeIs, Reforms, judged, RecordOf, record-of, AtJdn, Given, OnLabel, on-label, AtYmd, OnOrdinal, on-ordinal, AtOrdinal, TellsCalendar, ReformationOf, reformDay, ReformRecord, never-julian, never-gregorian, reform-record, LastJulian, FirstGregorian, IsGenuine, TellsDate, CountsDate, Next, ConvertsTo}
+use Rattle.calendar.specs.Natural.{SwitchIs, switches-at, no-calendar}
 
 -- ---- A day has one record
 unfoldable pub whole : Calendar → ℤ → ℕ → ℕ → ℕ → ℕ → ℤ → Date
@@ -70,6 +73,12 @@ pub at-ordinal-one : (c : Calendar) (y : ℤ) (o : ℕ) → One (AtOrdinal c y o
 at-ordinal-one c y o = unless-one (λ a. if-one (λ n. on-ordinal-one c y o))
 
 -- ---- Of a calendar
+pub switch-one : (c : Calendar) → One (SwitchIs c)
+switch-one c a b (switches-at p) (switches-at q) = ap Switch′.At (runs-one p q)
+switch-one c a b (switches-at p) (no-calendar n) = absurd (n (p .accepted))
+switch-one c a b (no-calendar n) (switches-at q) = absurd (n (q .accepted))
+switch-one c a b (no-calendar n) (no-calendar m) = refl
+
 pub tells-calendar-one : (c : Calendar) (b : Bool) → One (TellsCalendar c b)
 tells-calendar-one c b = unless-one (λ a. answers-one _)
 

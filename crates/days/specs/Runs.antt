@@ -1,6 +1,6 @@
 -- An accepted calendar as two runs of days that are held as naturals: Julian below day r, Gregorian from it on. The Julian calendar has its r
--- above every such day, the Gregorian one below: so what is said here is said once for all three kinds. From it: which day bears a label, which
--- labels are skipped, and the days of a year and of a month.
+-- above every such day, the Gregorian one below: so what is said here is said once for all three kinds, and a calendar has one r. From it:
+-- which day bears a label, which labels are skipped, and the days of a year and of a month.
 -- Assumes nothing.
 use mathlib.Core.Path.{_≡_, refl, sym, _∙_, ap, subst, subst₂}
 use mathlib.Core.Bool.{Bool, true, false, cond}
@@ -8,7 +8,7 @@ use mathlib.Core.Logic.{_⊎_, inl, inr, ⊎-elim}
 use Prim.Native.Nat.{ℕ, zero, suc, _+_, _-_, _/_, _<_, _≤_}
 use native.Mathlib.Omega.{arith}
 use native.Mathlib.Numerals.{add-one}
-use native.Mathlib.Nat.{le-refl, le-of-lt, lt-of-le-of-lt}
+use native.Mathlib.Nat.{le-refl, le-of-lt, lt-of-le-of-lt, lt-of-lt-of-le}
 use borrow.Author.Tests.{lt-ltb, le-ltb}
 use lib.Dec.{ltb}
 use lib.IntN.{ℤ, pos, sucℤ, _-ℤ_}
@@ -28,7 +28,7 @@ use Rattle.days.specs.Julian as J
 use Rattle.days.specs.Gregorian as G
 use Rattle.days.specs.Numbers.{There, number, numbered, there, daysBefore, within-year, month-first, month-past, few-before}
 use Rattle.days.specs.Calendars.{julian-rises, gregorian-rises, accepted-rises, labels-proper}
-use Rattle.days.specs.Table.{there-too}
+use Rattle.days.specs.Table.{there-too, fits-only}
 
 -- no day that is looked at is held as more
 abbrev pub top : ℕ
@@ -40,6 +40,8 @@ pub record Runs (c : Calendar) (r : ℕ) : Type 0 where
   pub above : (k : ℕ) → r ≤ k → k < top → (labels c (day k) ≡ labelOf gregorian (day k)) × (style c (day k) ≡ GregorianStyle)
   pub either : (n : ℤ) → (labels c n ≡ labelOf julian n) ⊎ (labels c n ≡ labelOf gregorian n)
   pub switches : 1 ≤ r → r < top → SwitchDay c (day r)
+  -- the r of a calendar that is never Gregorian is top itself, and nothing above it
+  pub most : r ≤ top
 
 -- ---- the three kinds
 never-below : (k r : ℕ) → r ≤ k → k < r → ⊥
@@ -52,6 +54,7 @@ julian-runs = record {
   above = λ k h t. absurd (never-below k top h t);
   either = λ n. inl refl;
   switches = λ h t. absurd (never-below top top (omega arith) t);
+  most = le-refl top;
 }
 
 pub gregorian-runs : Runs Gregorian 0
@@ -61,6 +64,7 @@ gregorian-runs = record {
   above = λ k h t. (refl, refl);
   either = λ n. inr refl;
   switches = λ h t. absurd (never-below 0 1 h (omega arith));
+  most = omega arith;
 }
 
 pub reforming-runs : (r : ℕ) → AcceptedReformation (day r) → Runs (Reforming (day r)) r
@@ -70,7 +74,20 @@ reforming-runs r a = record {
   above = λ k h t. (splice-from (day r) (labelOf julian) (labelOf gregorian) (unbias-le dayBias r k h), splice-from (day r) (λ _. JulianStyle) (λ _. GregorianStyle) (unbias-le dayBias r k h));
   either = splice-either (day r) (labelOf julian) (labelOf gregorian);
   switches = λ h t. reforms;
+  most = omega (arith, fits-only r (a .julian-day-fits));
 }
+
+-- ---- a calendar has one r
+
+-- between two of them the days would be of both styles
+not-sooner : {c : Calendar} {r s : ℕ} → Runs c r → Runs c s → ¬ (r < s)
+not-sooner {r = r} {s} p q h =
+    let t : r < top = lt-of-lt-of-le h (q .most) in
+    let e : JulianStyle ≡ GregorianStyle = sym (q .below r h t .1) ∙ p .above r (le-refl r) t .1 in
+    let z : _≡_ {A = ℕ} 0 1 = cc in omega arith
+
+pub runs-one : {c : Calendar} {r s : ℕ} → Runs c r → Runs c s → r ≡ s
+runs-one {r = r} {s} p q = ⊎-elim (λ h. absurd (not-sooner p q h)) (λ h. ⊎-elim (λ k. absurd (not-sooner q p k)) (λ k. omega arith) (N.lt-or-ge s r)) (N.lt-or-ge r s)
 
 -- the day before r is before what is not before r
 before-one : (r n : ℕ) → 1 ≤ r → r ≤ n → r - 1 < n

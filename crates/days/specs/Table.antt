@@ -149,7 +149,7 @@ held-fits {n} f =
 pub fits-held : {k : ℕ} → HeldDay k → Is32Bit (day k)
 fits-held {k} h = unbias-fits dayBias k (omega (arith, h .from)) (omega (arith, h .to))
 
-fits-only : (k : ℕ) → JulianDayFits (day k) → (782_219_370_428 ≤ k) × (k ≤ 786_514_249_530)
+pub fits-only : (k : ℕ) → JulianDayFits (day k) → (782_219_370_428 ≤ k) × (k ≤ 786_514_249_530)
 fits-only k p =
     let (j, e, h) = held-fits (p .julian-fits) in
     let q : labelOf julian (day j) ≡ labelOf gregorian (day k) = ap (labelOf julian) (sym e) ∙ p .julian-is in (

@@ -7,11 +7,16 @@ use Prim.Native.Nat.{ℕ, suc, _+_, _-_, _<_, _≤_}
 use native.Mathlib.Omega.{arith}
 use lib.IntN.{ℤ, pos}
 use Rattle.whole.specs.Tests.{lt-or-ge}
-use Rattle.days.specs.DayByDay.{Label, label, _≺_, LeapRule, nextLabel, prevLabel, stepping, OfYear, Place, Is32Bit}
+use Rattle.whole.specs.Biased.{unbias-injective}
+use Rattle.days.specs.DayByDay.{Label, label, _≺_, LeapRule, Reckoning, nextLabel, prevLabel, stepping, OfYear, Place, Is32Bit}
 use Rattle.days.specs.Rising.{place-one, nth-one}
 use Rattle.days.specs.Order.{≺-irrefl}
 use Rattle.days.specs.Steps.{after, after-stepping, after-sum}
 use Rattle.days.specs.Calendars.{after-later}
+use Rattle.days.specs.Held.{yearBias, year}
+use Rattle.days.specs.Starts.{Starts, Spot, label-of}
+use Rattle.days.specs.Numbers.{daysBefore}
+use Rattle.days.specs.Table.{fits-held}
 use Rattle.inner.specs.declared.DayNumber.{DayNumber}
 use Rattle.inner.specs.declared.DayNumber.the-variants as DayNumber′
 use Rattle.inner.specs.declared.MonthDay.{MonthDay}
@@ -19,6 +24,7 @@ use Rattle.inner.specs.declared.MonthDay.the-variants as MonthDay′
 use Rattle.inner.specs.declared.DayOrdinal.{DayOrdinal}
 use Rattle.inner.specs.declared.DayOrdinal.the-variants as DayOrdinal′
 use Rattle.inner.specs.Promise.{YearAndOrdinal, OrdinalDay, DayOfOrdinal, numbered, no-such-day, outside-32, InYear, MonthDayOf, month-day, no-month-day, OrdinalOf, ordinal, no-ordinal}
+use Rattle.inner.specs.Natural.{heldYear, Lowers, within, beyond, MonthDayAt}
 
 -- a day has one year and one ordinal
 pub year-and-ordinal-one : {f : ℤ → Label} {n y z : ℤ} {o p : ℕ} → YearAndOrdinal f n y o → YearAndOrdinal f n z p → (y ≡ z) × (o ≡ p)
@@ -74,3 +80,33 @@ ordinal-one (ordinal p) (ordinal q) = ap DayOrdinal′.At (in-year-ordinal p q)
 ordinal-one (ordinal p) (no-ordinal n) = absurd (n _ p)
 ordinal-one (no-ordinal n) (ordinal q) = absurd (n _ q)
 ordinal-one (no-ordinal n) (no-ordinal m) = refl
+
+-- ---- Of days and years that are held as naturals
+
+-- a day has one year and one ordinal: its label tells the year, and the first day of that year tells the ordinal. The starts are
+-- `J.starts` and `G.starts` of `days`.
+pub spot-one : {c : Reckoning} {leapAt : ℕ → Bool} {start : ℕ → ℕ} → Starts c leapAt start → {k : ℕ} (y z : ℕ) {o p : ℕ}
+    → Spot leapAt start k (heldYear y) o → Spot leapAt start k (heldYear z) p → (y ≡ z) × (o ≡ p)
+spot-one {start = start} s {k} y z {o} {p} a b =
+    let e : heldYear y ≡ heldYear z = unbias-injective yearBias (heldYear y) (heldYear z)
+    (ap (λ (l : Label). l .year) (sym (label-of s k (heldYear y) o a) ∙ label-of s k (heldYear z) p b)) in
+    (omega arith, rest (start (heldYear y)) (start (heldYear z)) (ap start e) (a .adds) (b .adds))
+  where
+    rest : (m n : ℕ) → m ≡ n → m + o ≡ k + 1 → n + p ≡ k + 1 → o ≡ p
+    rest m n e f g = omega arith
+
+-- a place in a year has one month, and the day is what is left
+pub month-day-at-one : {leap : Bool} {o m d n e : ℕ} → MonthDayAt leap o m d → MonthDayAt leap o n e → (m ≡ n) × (d ≡ e)
+month-day-at-one {leap} {o} {m} {d} {n} {e} a b =
+    let s : m ≡ n = a .month-is ∙ sym (b .month-is) in
+    (s, left (daysBefore leap m) (daysBefore leap n) (ap (daysBefore leap) s) (a .day-is) (b .day-is))
+  where
+    left : (i j : ℕ) → i ≡ j → i + d ≡ o → j + e ≡ o → d ≡ e
+    left i j s p q = omega arith
+
+-- a held day is of 32 bits, or it is not
+pub lowers-one : {k : ℕ} {r s : DayNumber} → Lowers k r → Lowers k s → r ≡ s
+lowers-one (within h) (within g) = refl
+lowers-one (within h) (beyond n) = absurd (n (fits-held h))
+lowers-one (beyond n) (within g) = absurd (n (fits-held g))
+lowers-one (beyond n) (beyond m) = refl
