@@ -1,5 +1,5 @@
 // A line of the listing: the numbers of a date or of a refusal in columns, written into a lent buffer. Each public call writes its text and
-// tells the place after it, or refuses 18 and leaves the buffer as it was.
+// tells the place after it, or says that it has no room and leaves the buffer as it was.
 
 ghost use mathlib.Core.Path.{_≡_};
 ghost use mathlib.Core.List.{[], _∷_};
@@ -34,8 +34,7 @@ fn put_digit(out: &mut [u8], at: usize, n: u64) -> usize
     requires { ⌜ at < length (now out) ⌝ }
     ensures { λ r. ⌜ So (now (out .entry)) at (digitsOf 1 n) (now (out .exit)) r ⌝ }
 {
-    out[at] = (48 + n % 10) as u8;
-    at + 1
+    put_byte(out, at, (48 + n % 10) as u8)
 }
 
 fn put_two(out: &mut [u8], at: usize, n: u64) -> usize

@@ -3,11 +3,9 @@
 use Prim.Native.Nat.{ℕ, suc, _+_, _-_, _≤_, _<_}
 use mathlib.Core.Path.{_≡_, refl, sym, _∙_, ap, subst}
 use mathlib.Core.List.{List, [], _∷_, _++_, append-assoc, append-nil}
-use mathlib.Core.Logic.{⊎-elim}
 use native.Mathlib.Omega.{arith}
 use lib.ListN.{length, getD, take, drop, length-append, length-drop}
 use lib.Seq.{take-all, drop-cons, take-at, drop-at, drop-length, take-length}
-use Rattle.whole.specs.Tests.{lt-or-ge}
 use lib.IntN.{pos}
 use Rattle.calendar.specs.declared.Dated.{Dated}
 use Rattle.calendar.specs.declared.Dated.the-variants as Dated′
@@ -65,16 +63,13 @@ module _ {b : ℕ} {s : List ℕ} {from i : ℕ} (g : Going b s from i) where
       none : drop i s ≡ []
       none = let e : i ≡ length s = omega (arith, g .inside) in ap (λ (k : ℕ). drop k s) e ∙ drop-length s
 
-  -- and what is found from there on is found from the beginning
+  far : {r : ℕ} (q : List ℕ) → r ≡ i + length q → r ≡ from + length (g .passed ++ q)
+  far q p = omega (arith, p, g .place, length-append (g .passed) q)
+
+  -- what is found from there on is found from the beginning
   pub going-then : {r : ℕ} → UpTo b s i r → UpTo b s from r
   going-then (UpTo.stands {q} u e w p) = UpTo.stands u (g .is ∙ ap (λ (x : List ℕ). g .passed ++ x) e ∙ sym (append-assoc (g .passed) q (b ∷ u))) (without-both (g .without) w) (far q p)
-    where
-      far : {r : ℕ} (q : List ℕ) → r ≡ i + length q → r ≡ from + length (g .passed ++ q)
-      far q p = omega (arith, p, g .place, length-append (g .passed) q)
   going-then (UpTo.ends {q} e w p) = UpTo.ends (g .is ∙ ap (λ (x : List ℕ). g .passed ++ x) e) (without-both (g .without) w) (far q p)
-    where
-      far : {r : ℕ} (q : List ℕ) → r ≡ i + length q → r ≡ from + length (g .passed ++ q)
-      far q p = omega (arith, p, g .place, length-append (g .passed) q)
 
 -- one byte further, counted from i
 pub going-next : {b : ℕ} {s : List ℕ} {from : ℕ} (i k : ℕ) → Going b s from (i + k) → i + k < length s → (getD s (i + k) 0 ≡ b → ⊥) → Going b s from (i + suc k)
