@@ -16,7 +16,7 @@ use Rattle.whole.specs.Biased.{unbias, unbias-suc, unbias-back}
 use Rattle.whole.specs.Machine.{unbias-more}
 use Rattle.whole.specs.Edge.{unbias-fits, unbias-fits-only}
 use Rattle.days.specs.DayByDay as D
-use Rattle.days.specs.DayByDay.{Label, label, OfYear, OfMonth, Place, Ordinal, DayOrdinal, YearLength, Borne, Is32Bit, monthLength, Style, JulianStyle, GregorianStyle, style}
+use Rattle.days.specs.DayByDay.{AcceptedReformation, Label, label, OfYear, OfMonth, Place, Ordinal, DayOrdinal, YearLength, Borne, Is32Bit, monthLength, Style, JulianStyle, GregorianStyle, style}
 use Rattle.days.specs.Rising.{nth-within, days-one}
 use Rattle.days.specs.Held.{dayBias, yearBias, day, year, HeldDay, HeldYear}
 use Rattle.days.specs.Year.{yearLength, year-most}
@@ -28,7 +28,7 @@ use Rattle.days.specs.Range.{julian-year, gregorian-year}
 use Rattle.days.specs.Numbers.{There, number, daysBefore, before, few-before}
 use Rattle.days.specs.Months.{ordinal-within}
 use Rattle.days.specs.Steps.{month-some}
-use Rattle.days.specs.Reformations.{Outcome, Row, row-1, row-2, row-3, row-4, row-5}
+use Rattle.days.specs.Reformations.{all-three}
 use Rattle.days.specs.Table.{accepts, accepts-only, fits-held, there-too, table-holds}
 use Rattle.whole.specs.Integers.{unbias-le}
 use Rattle.days.specs.Calendars.{skipped-nowhere}
@@ -40,6 +40,10 @@ use Rattle.inner.specs.Laws.{held-day, held-year, in-year-valid, in-year-month,
 use Rattle.inner.specs.declared.DayNumber.{DayNumber}
 use Rattle.inner.specs.declared.DayNumber.the-variants as DayNumber′
 use Rattle.inner.specs.declared.DayOrdinal.the-variants as DayOrdinal′
+use Rattle.fields.specs.declared.Fields.{Fields}
+use Rattle.fields.specs.Same.{IsSame}
+use Rattle.reformation.specs.Judging.{Judges, accepts-held, refuses-with-1, refuses-with-2, refused-not}
+use Rattle.reformation.specs.declared.Judgement.the-variants as Judgement′
 use Rattle.calendar.specs.declared.Calendar.{Calendar}
 use Rattle.calendar.specs.declared.Calendar.the-variants.{Julian, Gregorian, Reforming}
 use Rattle.calendar.specs.declared.Date.{Date}
@@ -55,17 +59,17 @@ use Rattle.calendar.specs.Calendars.{meant, labels, Accepted, IsRecord, 
 use Rattle.calendar.specs.Rows.{refuses, passes}
 use Rattle.calendar.specs.Promise.{refused, refusedReformation, outcomeIs, Reforms, judged, Month, RecordOf, record-of, Given, ByLabel, OnLabel, on-label, ByOrdinal, OffYear, OnOrdinal, on-ordinal, AtJdn, IsGenuine, Next, ConvertsTo}
 use Rattle.calendar.specs.One.{whole, record-one}
-use Rattle.calendar.specs.Natural.{SwitchIs, switches-at, no-calendar, YearSpan, InYear, At, LabelledAt, old, new, OnSpot, spot, plainRecord, SpotAt, ThereIn, Reads, reads-at, reads-none, ReadsBelow, below-at, below-none, Finds, finds-at, finds-gap, finds-none, Agree, SameFields}
+use Rattle.calendar.specs.Natural.{SwitchIs, switches-at, no-calendar, YearSpan, InYear, At, LabelledAt, old, new, OnSpot, spot, plainRecord, SpotAt, ThereIn, Reads, reads-at, reads-none, ReadsBelow, below-at, below-none, Finds, finds-at, finds-gap, finds-none, fieldsOf}
 
 -- ---- Where a calendar goes over
-pub switch-reforming : {r : ℤ} (x : ℕ) → unbias (2 ^ 31) x ≡ r → 784_368_640_634 ≤ heldDay x → heldDay x ≤ 786_514_249_530 → SwitchIs (Reforming r) (Switch′.At (heldDay x))
-switch-reforming x e h g = subst (λ (r : ℤ). SwitchIs (Reforming r) (Switch′.At (heldDay x))) (held-day x ∙ e) (switches-at (reforming-runs (heldDay x) (accepts (heldDay x) h g)))
+pub switch-accepted : {r : ℤ} {k : ℕ} → Judges r (Judgement′.Accepted k) → SwitchIs (Reforming r) (Switch′.At k)
+switch-accepted {k = k} (accepts-held (all-three a) e) = subst (λ (r : ℤ). SwitchIs (Reforming r) (Switch′.At k)) e (switches-at (reforming-runs k (subst AcceptedReformation (sym e) a)))
 
-pub switch-none : {r : ℤ} (x : ℕ) → unbias (2 ^ 31) x ≡ r → ((784_368_640_634 ≤ heldDay x) × (heldDay x ≤ 786_514_249_530) → ⊥) → SwitchIs (Reforming r) Switch′.MadeUp
-switch-none x e n = subst (λ (r : ℤ). SwitchIs (Reforming r) Switch′.MadeUp) (held-day x ∙ e) (no-calendar not)
+pub switch-refused : {r : ℤ} {n : ℕ} → Judges r (Judgement′.Refused n) → SwitchIs (Reforming r) Switch′.MadeUp
+switch-refused {r} j = no-calendar not
   where
-    not : ¬ Accepted (Reforming (day (heldDay x)))
-    not (D.reforming-accepted a) = n (accepts-only (heldDay x) (omega arith) a)
+    not : ¬ Accepted (Reforming r)
+    not (D.reforming-accepted a) = refused-not j (all-three a)
 
 -- ---- A day in its reckoning
 module _ {leapAt : ℕ → Bool} {start : ℕ → ℕ} {k y m d o : ℕ} (a : At leapAt start k y m d o) where
@@ -408,24 +412,12 @@ pub month-has-first : {leap : Bool} {m : ℕ} → Month m → OrdinalOf leap m 1
 month-has-first {leap} {m} v (no-ordinal n) = n (daysBefore leap m + 1) (in-year-month leap m 1 v (omega arith) (month-some leap m (v .0) (v .1)))
 
 -- ---- Reformations
-module _ {r : ℤ} (x : ℕ) (e : unbias (2 ^ 31) x ≡ r) (h : x < 2 ^ 32) where
-  reforms-row : {o : Outcome} → Row (day (heldDay x)) o → Reforms r (outcomeIs r o)
-  reforms-row {o} w = subst (λ (r : ℤ). Reforms r (outcomeIs r o)) (held-day x ∙ e) (judged (table-holds (day (heldDay x)) (fits-held (raised-day-held h)) o .0 w))
+pub reforms-accepted : {r : ℤ} {k : ℕ} → Judges r (Judgement′.Accepted k) → Reforms r (Reformed′.Calendar (Reforming r))
+reforms-accepted (accepts-held j e) = judged j
 
-  pub reforms-1 : heldDay x < 782_219_326_295 → Reforms r (refusedReformation 1 r)
-  reforms-1 g = let q : heldDay x ≡ 782_219_326_294 = omega arith in reforms-row (row-1 (ap day q))
-
-  pub reforms-2 : 782_219_326_295 ≤ heldDay x → heldDay x < 782_219_370_428 → Reforms r (refusedReformation 2 r)
-  reforms-2 f g = reforms-row (row-2 (unbias-le dayBias 782_219_326_295 (heldDay x) f) (unbias-le dayBias (heldDay x) 782_219_370_427 (omega arith)))
-
-  pub reforms-3 : 782_219_370_428 ≤ heldDay x → heldDay x < 784_368_640_634 → Reforms r (refusedReformation 1 r)
-  reforms-3 f g = reforms-row (row-3 (unbias-le dayBias 782_219_370_428 (heldDay x) f) (unbias-le dayBias (heldDay x) 784_368_640_633 (omega arith)))
-
-  pub reforms-4 : 784_368_640_634 ≤ heldDay x → heldDay x ≤ 786_514_249_530 → Reforms r (Reformed′.Calendar (Reforming r))
-  reforms-4 f g = reforms-row (row-4 (unbias-le dayBias 784_368_640_634 (heldDay x) f) (unbias-le dayBias (heldDay x) 786_514_249_530 g))
-
-  pub reforms-5 : 786_514_249_530 < heldDay x → Reforms r (refusedReformation 2 r)
-  reforms-5 f = reforms-row (row-5 (unbias-le dayBias 786_514_249_531 (heldDay x) f) (unbias-le dayBias (heldDay x) 786_514_293_589 (omega arith)))
+pub reforms-refused : {r : ℤ} {n : ℕ} → Judges r (Judgement′.Refused n) → Reforms r (refusedReformation n r)
+reforms-refused (refuses-with-1 j) = judged j
+reforms-refused (refuses-with-2 j) = judged j
 
 -- ---- The record of a spot
 pub labelled-room : {r k y m d o : ℕ} → LabelledAt r k y m d o → (k < 2_000_000_000_000) × (1 ≤ o) × (o ≤ 366) × (o ≤ k + 1) × (d ≤ k + 1)
@@ -486,7 +478,7 @@ pub given-spot : (c : Calendar) {k y o : ℕ} {b : Bool} {s : S.Spot} {a : Dated
 given-spot c {a = a} p g = subst (λ (s : S.Spot). Given c (year (heldYear (s .year))) (day (s .held)) a) (p .is) g
 
 -- ---- A genuine record
-pub genuine-by : {d t : Date} → RecordOf (d .calendar) (d .jdn) (Dated′.Date t) → Accepted (d .calendar) → Agree d t → Genuine d
+pub genuine-by : {d t : Date} → RecordOf (d .calendar) (d .jdn) (Dated′.Date t) → Accepted (d .calendar) → fieldsOf d ≡ fieldsOf t → Genuine d
 unfolding whole
 genuine-by {d} {t} (record-of i) a g = record { accepted = a; is-record = subst (IsRecord (d .calendar) (d .jdn)) same i }
   where
@@ -494,25 +486,23 @@ genuine-by {d} {t} (record-of i) a g = record { accepted = a; is-record = subst 
     same =
         let c : t .calendar ≡ d .calendar = i .calendar-is in
         let j : t .jdn ≡ d .jdn = i .day-is in
-        let y : d .year ≡ t .year = g .years in
-        let o : d .ordinal ≡ t .ordinal = g .ordinals in
-        let m : d .month ≡ t .month = g .months in
-        let e : d .day ≡ t .day = g .days in
-        let b : d .«day_ordinal» ≡ t .«day_ordinal» = g .day-ordinals in
+        let y : d .year ≡ t .year = ap (λ (f : Fields). f .year) g in
+        let o : d .ordinal ≡ t .ordinal = ap (λ (f : Fields). f .ordinal) g in
+        let m : d .month ≡ t .month = ap (λ (f : Fields). f .month) g in
+        let e : d .day ≡ t .day = ap (λ (f : Fields). f .day) g in
+        let b : d .«day_ordinal» ≡ t .«day_ordinal» = ap (λ (f : Fields). f .«day_ordinal») g in
         let w : whole (t .calendar) (t .year) (t .ordinal) (t .month) (t .day) (t .«day_ordinal») (t .jdn) ≡ whole (d .calendar) (d .year) (d .ordinal) (d .month) (d .day) (d .«day_ordinal») (d .jdn) = cc in
         w
 
-not-genuine : {d t : Date} → RecordOf (d .calendar) (d .jdn) (Dated′.Date t) → ¬ Agree d t → ¬ Genuine d
-not-genuine {d} {t} (record-of i) n g =
-    let e : d ≡ t = record-one (d .calendar) (g .is-record) i in
-    n (record { years = ap (λ (d : Date). d .year) e; ordinals = ap (λ (d : Date). d .ordinal) e; months = ap (λ (d : Date). d .month) e; days = ap (λ (d : Date). d .day) e; day-ordinals = ap (λ (d : Date). d .«day_ordinal») e })
+not-genuine : {d t : Date} → RecordOf (d .calendar) (d .jdn) (Dated′.Date t) → ¬ (fieldsOf d ≡ fieldsOf t) → ¬ Genuine d
+not-genuine {d} (record-of i) n g = n (ap fieldsOf (record-one (d .calendar) (g .is-record) i))
 
 -- what is promised for a day number is promised for the same number written otherwise
 pub at-same-jdn : {c : Calendar} {n m : ℤ} {a : Dated} → n ≡ m → AtJdn c n a → AtJdn c m a
 at-same-jdn {c} {a = a} e p = subst (λ (k : ℤ). AtJdn c k a) e p
 
 -- from the record of its day number in its calendar
-pub genuine-compared : (d t : Date) (b : Bool) → AtJdn (d .calendar) (d .jdn) (Dated′.Date t) → SameFields d t b → IsGenuine d b
+pub genuine-compared : (d t : Date) (b : Bool) → AtJdn (d .calendar) (d .jdn) (Dated′.Date t) → IsSame (fieldsOf d) (fieldsOf t) b → IsGenuine d b
 genuine-compared d t true (passes a r) s = genuine-by r a s
 genuine-compared d t false (passes a r) s = not-genuine r s
 

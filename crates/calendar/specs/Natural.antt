@@ -10,6 +10,7 @@ use Rattle.days.specs.Gregorian as G
 use Rattle.days.specs.Numbers.{There, number, daysBefore}
 use Rattle.days.specs.Runs.{Runs, top, yearFirst}
 use Rattle.inner.specs.Natural.{heldYear, MonthDayAt}
+use Rattle.fields.specs.declared.Fields.{Fields}
 use Rattle.calendar.specs.declared.Calendar.{Calendar}
 use Rattle.calendar.specs.declared.Date.{Date}
 use Rattle.calendar.specs.declared.Switch.{Switch}
@@ -97,17 +98,9 @@ pub data Finds (r y m d : ℕ) : Found → Type 0 where
 abbrev pub ReformDateOf : Calendar → ℕ → ReformDate → Type 0
 ReformDateOf c b = Unless (Accepted c) (ReformDate′.Refused made-up) (ReformRecord (pos b) c)
 
--- two records agree in the fields that the day number and the calendar determine
-pub record Agree (a b : Date) : Type 0 where
-  pub years : a .year ≡ b .year
-  pub ordinals : a .ordinal ≡ b .ordinal
-  pub months : a .month ≡ b .month
-  pub days : a .day ≡ b .day
-  pub day-ordinals : a .«day_ordinal» ≡ b .«day_ordinal»
-
-abbrev pub SameFields : Date → Date → Bool → Type 0
-SameFields a b true = Agree a b
-SameFields a b false = ¬ Agree a b
+-- the fields of a record that its day number and its calendar determine
+abbrev pub fieldsOf : Date → Fields
+fieldsOf d = record { year = d .year; ordinal = d .ordinal; month = d .month; day = d .day; «day_ordinal» = d .«day_ordinal» }
 
 -- of an accepted calendar: whether the label of a 32-bit day is Julian
 abbrev pub JulianStyleIs : Calendar → ℤ → Bool → Type 0

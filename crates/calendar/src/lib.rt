@@ -10,7 +10,9 @@ ghost use Prim.Native.Nat.{_-_, _≤_};
 ghost use Rattle.calendar.specs.Calendars.{isReforming, styleIs};
 ghost use Rattle.calendar.specs.Promise.{refusal, refused, refusedReformation, Reforms, AtJdn, AtYmd, AtOrdinal, Next, ConvertsTo, IsGenuine, TellsCalendar, TellsDate, CountsDate, ReformationOf, reformDay, LastJulian, FirstGregorian};
 ghost use Rattle.inner.specs.Natural.{heldYear};
-ghost use Rattle.calendar.specs.Natural.{SwitchIs, YearSpan, ReformDateOf, SameFields, JulianStyleIs};
+ghost use Rattle.calendar.specs.Natural.{SwitchIs, YearSpan, ReformDateOf, fieldsOf, JulianStyleIs};
+use fields::Fields;
+use reformation::Judgement;
 use whole::counted;
 use whole::lowered;
 use whole::raised;
@@ -88,11 +90,6 @@ pub enum ReformDate {
 
 // ---- Where a calendar goes over
 
-// The accepted reformations are the days 1830692 to 2147439588; as held days:
-const FIRST_REFORMATION: u64 = 784_368_640_634;
-
-const LAST_REFORMATION: u64 = 786_514_249_530;
-
 // A calendar is Julian below a held day and Gregorian from it on. The Julian one goes over past every day that is looked at, the Gregorian
 // one before.
 pub enum Switch {
@@ -106,16 +103,10 @@ pub fn switch_of(calendar: Calendar) -> Switch
     match calendar {
         Calendar::Julian => Switch::At(4_000_000_000_000),
         Calendar::Gregorian => Switch::At(0),
-        Calendar::Reforming(r) => {
-            let day = raised(r) as u64 + 782_219_326_294;
-            if day < FIRST_REFORMATION {
-                return Switch::MadeUp;
-            }
-            if LAST_REFORMATION < day {
-                return Switch::MadeUp;
-            }
-            Switch::At(day)
-        }
+        Calendar::Reforming(r) => match reformation::judge(r) {
+            Judgement::Accepted(day) => Switch::At(day),
+            Judgement::Refused(_) => Switch::MadeUp,
+        },
     }
 }
 
@@ -198,20 +189,10 @@ impl Calendar {
     pub fn reforming(r: i32) -> Reformed
         ensures { λ a. ⌜ Reforms r a ⌝ }
     {
-        let day = raised(r) as u64 + 782_219_326_294;
-        if day < 782_219_326_295 {
-            return refused_reformation(1, r);
+        match reformation::judge(r) {
+            Judgement::Accepted(_) => Reformed::Calendar(Calendar::Reforming(r)),
+            Judgement::Refused(number) => refused_reformation(number, r),
         }
-        if day < 782_219_370_428 {
-            return refused_reformation(2, r);
-        }
-        if day < FIRST_REFORMATION {
-            return refused_reformation(1, r);
-        }
-        if LAST_REFORMATION < day {
-            return refused_reformation(2, r);
-        }
-        Reformed::Calendar(Calendar::Reforming(r))
     }
 
     // The date of a day number.
@@ -362,7 +343,7 @@ impl Date {
         let calendar = self.calendar;
         match calendar.at_jdn(self.jdn) {
             Dated::Refused(_) => false,
-            Dated::Date(given) => same_fields(self, given),
+            Dated::Date(given) => fields::same_fields(fields_of(self), fields_of(given)),
         }
     }
 
@@ -463,25 +444,17 @@ fn one_less(n: u32) -> u32
     n - 1
 }
 
-fn same_fields(a: Date, b: Date) -> bool
-    ensures { λ r. ⌜ SameFields a b r ⌝ }
+// What the day number and the calendar of a genuine record determine.
+fn fields_of(date: Date) -> Fields
+    ensures { λ f. ⌜ f ≡ fieldsOf date ⌝ }
 {
-    if a.year != b.year {
-        return false;
+    Fields {
+        year: date.year,
+        ordinal: date.ordinal,
+        month: date.month,
+        day: date.day,
+        day_ordinal: date.day_ordinal,
     }
-    if a.ordinal != b.ordinal {
-        return false;
-    }
-    if a.month != b.month {
-        return false;
-    }
-    if a.day != b.day {
-        return false;
-    }
-    if a.day_ordinal != b.day_ordinal {
-        return false;
-    }
-    true
 }
 
 // Whether a day is before the switch of an accepted calendar.

@@ -1,13 +1,13 @@
 -- `calendar::switch_of` meets its contract, variant by variant.
 -- Assumes nothing.
-use mathlib.Core.Path.{_≡_, sym, _∙_, subst}
-use Prim.Native.Nat.{_+_, _-_, _^_}
-use native.Mathlib.Omega.{arith}
+use mathlib.Core.Path.{_≡_, sym, subst}
+use Prim.Native.Nat.{_-_}
+use lib.IntN.{ℤ}
 use borrow.Author.Needs.{needs, sfits-of}
 use mir.Facts.{toZ-ofZ}
-use Rattle.whole.specs.Biased.{unbias}
 use Rattle.days.specs.Runs.{julian-runs, gregorian-runs}
-use Rattle.calendar.specs.Laws.{switch-reforming, switch-none}
+use Rattle.reformation.specs.Judging.{Judges}
+use Rattle.calendar.specs.Laws.{switch-accepted, switch-refused}
 use Rattle.calendar.specs.Natural.{SwitchIs, switches-at}
 use Rattle.calendar.specs.declared.Calendar.the-variants.{Reforming}
 use Rattle.calendar.specs.declared.Calendar.{Calendar}
@@ -15,12 +15,12 @@ use Rattle.calendar.specs.declared.Switch.the-variants as Switch′
 use Rattle.calendar.proofs.switch_of.Statement.{statement}
 use Rattle.calendar.proofs.switch_of.Tie as tie
 
--- the reforming calendar, and its day
+-- the reforming calendar, and the judgement of its day
 is : (c : tie.After-known-told) → c .before .before .before .args .calendar ≡ Reforming (c .before .calendar .given .0 .0)
 is c = c .before .calendar .given .1
 
-held : (c : tie.After-raised) → unbias (2 ^ 31) (c .raised .result) ≡ c .before .before .calendar .given .0 .0
-held c = c .raised .ensures ∙ toZ-ofZ (sfits-of (c .before .known-told .given .0 .1))
+judges : (c : tie.After-judge) → Judges (c .before .before .calendar .given .0 .0) (c .judge .result)
+judges c = subst (λ (r : ℤ). Judges r (c .judge .result)) (toZ-ofZ (sfits-of (c .before .known-told .given .0 .1))) (c .judge .ensures)
 
 enum-told : tie.Need-enum-told
 enum-told c = search needs
@@ -31,31 +31,30 @@ enum-told-2 c = search needs
 enum-known-calendar : tie.Need-enum-known-calendar
 enum-known-calendar c = search needs
 
-raised-requires : tie.Need-raised-requires
-raised-requires c κs = search needs
+judge-requires : tie.Need-judge-requires
+judge-requires c κs = search needs
 
-cast-day : tie.Need-cast-day
-cast-day c = search needs
+enum-known-day : tie.Need-enum-known-day
+enum-known-day c = search needs
 
-add-day : tie.Need-add-day
-add-day c = search needs
+enum-told-3 : tie.Need-enum-told-3
+enum-told-3 c = search needs
 
 returns : tie.Need-returns
-returns c = subst (λ (x : Calendar). SwitchIs x Switch′.MadeUp) (sym (is (c .before .before))) (switch-none (c .before .raised .result) (held (c .before)) (λ p. omega arith))
+returns c = subst (λ (x : Calendar). SwitchIs x (Switch′.At 4_000_000_000_000)) (sym (c .enum-told .given .1)) (switches-at julian-runs)
 
 returns-2 : tie.Need-returns-2
-returns-2 c = subst (λ (x : Calendar). SwitchIs x Switch′.MadeUp) (sym (is (c .before .before .before))) (switch-none (c .before .before .raised .result) (held (c .before .before)) (λ p. omega arith))
+returns-2 c = subst (λ (x : Calendar). SwitchIs x (Switch′.At 0)) (sym (c .enum-told2 .given .1)) (switches-at gregorian-runs)
 
 returns-3 : tie.Need-returns-3
-returns-3 c = subst (λ (x : Calendar). SwitchIs x (Switch′.At 4_000_000_000_000)) (sym (c .enum-told .given .1)) (switches-at julian-runs)
+returns-3 c =
+    let a = c .before .before .before in
+    subst (λ (x : Calendar). SwitchIs x (Switch′.At (c .before .day .given .0 .0))) (sym (is (a .before))) (switch-accepted (rw (c .before .day .given .1) at (judges a)))
 
 returns-4 : tie.Need-returns-4
-returns-4 c = subst (λ (x : Calendar). SwitchIs x (Switch′.At 0)) (sym (c .enum-told2 .given .1)) (switches-at gregorian-runs)
-
-returns-5 : tie.Need-returns-5
-returns-5 c =
-    let x = c .before .before .raised .result in
-    subst (λ (k : Calendar). SwitchIs k (Switch′.At (x + 782_219_326_294))) (sym (is (c .before .before .before))) (switch-reforming x (held (c .before .before)) (c .before .if1 .left) (c .if2 .left))
+returns-4 c =
+    let a = c .before .before in
+    subst (λ (x : Calendar). SwitchIs x Switch′.MadeUp) (sym (is (a .before))) (switch-refused (rw (c .enum-told3 .given .1) at (judges a)))
 
 pub switch-of-spec : {M : Type 1} → statement M
 switch-of-spec =
@@ -64,11 +63,10 @@ switch-of-spec =
     enum-told
     enum-told-2
     enum-known-calendar
-    raised-requires
-    cast-day
-    add-day
+    judge-requires
+    enum-known-day
+    enum-told-3
     returns
     returns-2
     returns-3
-    returns-4
-    returns-5)
+    returns-4)

@@ -16,6 +16,12 @@ enum-told c = search needs
 enum-known-given : tie.Need-enum-known-given
 enum-known-given c = search needs
 
+fields-of-requires : tie.Need-fields-of-requires
+fields-of-requires c κs = search needs
+
+fields-of-requires-2 : tie.Need-fields-of-requires-2
+fields-of-requires-2 c κs = search needs
+
 same-fields-requires : tie.Need-same-fields-requires
 same-fields-requires c κs = search needs
 
@@ -24,11 +30,21 @@ returns c = genuine-refused (c .enum-told .given .1) (at-same-jdn (toZ-ofZ (sfit
 
 returns-2 : tie.Need-returns-2
 returns-2 c =
-    let a = c .before .before .before .before in
-    genuine-compared (a .before .before .args .self) (c .before .before .given .given .0 .0) (c .same-fields .result)
-    (at-same-jdn (toZ-ofZ (sfits-of (a .before .struct-told .given .1 .1 .1 .1 .1 .1 .0 .1))) (rw (c .before .before .given .given .1) at (a .at-jdn .ensures))) (c .same-fields .ensures)
+    let g = c .before .before .before .before in
+    let a = g .before .before in
+    genuine-compared (a .before .before .args .self) (g .given .given .0 .0) (c .same-fields .result)
+    (at-same-jdn (toZ-ofZ (sfits-of (a .before .struct-told .given .1 .1 .1 .1 .1 .1 .0 .1))) (rw (g .given .given .1) at (a .at-jdn .ensures)))
+    (rw (c .before .before .fields-of .ensures, c .before .fields-of2 .ensures) at (c .same-fields .ensures))
 
 pub is-genuine-spec : {M : Type 1} → statement M
 is-genuine-spec =
     tie.close
-    (tie.spec at-jdn-requires enum-told enum-known-given same-fields-requires returns returns-2)
+    (tie.spec
+    at-jdn-requires
+    enum-told
+    enum-known-given
+    fields-of-requires
+    fields-of-requires-2
+    same-fields-requires
+    returns
+    returns-2)

@@ -1,0 +1,2 @@
+-- Whether two dates agree in their numbers.
+pub mod Same
