@@ -3,40 +3,34 @@
 use mathlib.Core.Path.{_≡_, refl, sym, _∙_, ap, ap₂, subst, subst₂}
 use mathlib.Core.Bool.{Bool, true, false, not}
 use mathlib.Core.Logic.{_⊎_, inl, inr, ⊎-elim}
-use Prim.Native.Nat.{ℕ, suc, _+_, _-_, _*_, _/_, _<_, _≤_, _^_}
+use Prim.Native.Nat.{ℕ, _+_, _-_, _*_, _/_, _<_, _≤_, _^_}
 use native.Mathlib.Omega.{arith}
 use native.Mathlib.Numerals.{add-one}
 use borrow.Author.Tests.{lt-ltb, le-ltb}
 use lib.Dec.{ltb}
 use lib.IntN.{ℤ, pos, sucℤ, predℤ, -ℤ-one}
-use mir.Syntax.{w32}
-use mir.Val.{SFits, toZ, ofZ}
 use Rattle.whole.specs.Tests.{lt-or-ge}
 use Rattle.whole.specs.Biased.{unbias, unbias-suc, unbias-back}
 use Rattle.whole.specs.Machine.{unbias-more}
 use Rattle.whole.specs.Edge.{unbias-fits, unbias-fits-only}
 use Rattle.days.specs.DayByDay as D
-use Rattle.days.specs.DayByDay.{AcceptedReformation, Label, label, OfYear, OfMonth, Place, Ordinal, DayOrdinal, YearLength, Borne, Is32Bit, monthLength, Style, JulianStyle, GregorianStyle, style}
-use Rattle.days.specs.Rising.{nth-within, days-one}
-use Rattle.days.specs.Held.{dayBias, yearBias, day, year, HeldDay, HeldYear}
-use Rattle.days.specs.Year.{yearLength, year-most}
+use Rattle.days.specs.DayByDay.{AcceptedReformation, label, OfYear, Place, Ordinal, DayOrdinal, Is32Bit, Style, JulianStyle, GregorianStyle, style}
+use Rattle.days.specs.Rising.{days-one}
+use Rattle.days.specs.Held.{dayBias, day, year, HeldYear}
+use Rattle.days.specs.Year.{year-most}
 use Rattle.days.specs.Spans.{Stretch}
-use Rattle.days.specs.Starts.{Starts, Spot}
+use Rattle.days.specs.Starts.{Spot}
 use Rattle.days.specs.Julian as J
 use Rattle.days.specs.Gregorian as G
-use Rattle.days.specs.Range.{julian-year, gregorian-year}
-use Rattle.days.specs.Numbers.{There, number, daysBefore, before, few-before}
-use Rattle.days.specs.Months.{ordinal-within}
+use Rattle.days.specs.Numbers.{number, daysBefore, few-before}
 use Rattle.days.specs.Steps.{month-some}
 use Rattle.days.specs.Reformations.{all-three}
-use Rattle.days.specs.Table.{accepts, accepts-only, fits-held, there-too, table-holds}
-use Rattle.whole.specs.Integers.{unbias-le}
+use Rattle.days.specs.Table.{accepts-only, fits-held}
 use Rattle.days.specs.Calendars.{skipped-nowhere}
-use Rattle.days.specs.Runs.{Runs, top, julian-runs, gregorian-runs, reforming-runs, firstDay, first-cases, first-julian, yearFirst, monthFirst, julianMonth, gregorianMonth, year-plain, month-plain, year-stretch, month-stretch, ordinal-at, day-ordinal-at, on-old, on-new, in-gap, on-none}
+use Rattle.days.specs.Runs.{Runs, reforming-runs, firstDay, first-cases, first-julian, yearFirst, monthFirst, julianMonth, gregorianMonth, year-plain, month-plain, year-stretch, ordinal-at, day-ordinal-at, on-old, on-new, in-gap, on-none}
 use Rattle.inner.specs.Natural.{heldDay, heldYear, MonthDayAt, Lowers, within, beyond}
 use Rattle.inner.specs.Promise.{OrdinalOf, ordinal, no-ordinal}
-use Rattle.inner.specs.One.{in-year-ordinal}
-use Rattle.inner.specs.Laws.{held-day, held-year, in-year-valid, in-year-month, month-day-in, julian-alone, gregorian-alone, spot-of-year, raised-day-held}
+use Rattle.inner.specs.Laws.{held-day, in-year-month, month-day-in, julian-alone, gregorian-alone, spot-of-year}
 use Rattle.inner.specs.declared.DayNumber.{DayNumber}
 use Rattle.inner.specs.declared.DayNumber.the-variants as DayNumber′
 use Rattle.inner.specs.declared.DayOrdinal.the-variants as DayOrdinal′
@@ -51,15 +45,16 @@ use Rattle.calendar.specs.declared.Reformed.the-variants as Reformed′
 use Rattle.calendar.specs.declared.Dated.{Dated}
 use Rattle.calendar.specs.declared.Dated.the-variants as Dated′
 use Rattle.calendar.specs.declared.Switch.the-variants as Switch′
-use Rattle.calendar.specs.declared.record.Spot as S
-use Rattle.calendar.specs.declared.record.Found.the-variants as Found′
-use Rattle.calendar.specs.declared.record.Read.the-variants as Read′
+use Rattle.changeover.specs.declared.Spot as S
+use Rattle.changeover.specs.declared.Found.the-variants as Found′
+use Rattle.changeover.specs.Spots.{YearSpan, At, LabelledAt, old, new, spot, Finds, finds-old, finds-new, finds-gap, finds-none}
+use Rattle.changeover.specs.Laws.{at-number, at-from, at-few, ordinal-sum}
 use Rattle.calendar.specs.declared.Refusal.{Refusal}
 use Rattle.calendar.specs.Calendars.{meant, labels, Accepted, IsRecord, Genuine, sameStyle, styleIs}
 use Rattle.calendar.specs.Rows.{refuses, passes}
-use Rattle.calendar.specs.Promise.{refused, refusedReformation, outcomeIs, Reforms, judged, Month, RecordOf, record-of, Given, ByLabel, OnLabel, on-label, ByOrdinal, OffYear, OnOrdinal, on-ordinal, AtJdn, IsGenuine, Next, ConvertsTo}
+use Rattle.calendar.specs.Promise.{refused, refusedReformation, Reforms, judged, Month, RecordOf, record-of, Given, ByLabel, on-label, ByOrdinal, OffYear, on-ordinal, AtJdn, IsGenuine, Next, ConvertsTo}
 use Rattle.calendar.specs.One.{whole, record-one}
-use Rattle.calendar.specs.Natural.{SwitchIs, switches-at, no-calendar, YearSpan, InYear, At, LabelledAt, old, new, OnSpot, spot, plainRecord, SpotAt, ThereIn, Reads, reads-at, reads-none, ReadsBelow, below-at, below-none, Finds, finds-at, finds-gap, finds-none, fieldsOf}
+use Rattle.calendar.specs.Natural.{SwitchIs, switches-at, no-calendar, InYear, OnSpot, plainRecord, SpotAt, fieldsOf}
 
 -- ---- Where a calendar goes over
 pub switch-accepted : {r : ℤ} {k : ℕ} → Judges r (Judgement′.Accepted k) → SwitchIs (Reforming r) (Switch′.At k)
@@ -72,21 +67,6 @@ switch-refused {r} j = no-calendar not
     not (D.reforming-accepted a) = refused-not j (all-three a)
 
 -- ---- A day in its reckoning
-module _ {leapAt : ℕ → Bool} {start : ℕ → ℕ} {k y m d o : ℕ} (a : At leapAt start k y m d o) where
-  pub at-number : number leapAt start y m d ≡ k
-  at-number = sum (start y) (daysBefore (leapAt y) m) (a .ordinal-is) (a .adds) (a .there .2)
-    where
-      sum : (s b : ℕ) → b + d ≡ o → s + o ≡ k + 1 → 1 ≤ d → s + b + d - 1 ≡ k
-      sum s b e f h = omega arith
-
-  pub at-from : 1 ≤ o
-  at-from = omega (arith, a .ordinal-is, a .there .2)
-
-  pub at-few : o ≤ 366
-  at-few =
-      let t : There leapAt y m d = a .there in
-      omega (arith, a .ordinal-is, ordinal-within (leapAt y) m (daysBefore (leapAt y) m) d (t .0) (t .1) (t .3) (before (leapAt y) m (t .0) (t .1)), year-most (leapAt y))
-
 -- its ordinal, month and day by arithmetic
 pub at-spot : {leapAt : ℕ → Bool} {start : ℕ → ℕ} {k y m d o : ℕ} → HeldYear y → Spot leapAt start k y o → MonthDayAt (leapAt y) o m d → At leapAt start k y m d o
 at-spot h p q =
@@ -209,70 +189,20 @@ labelled-new {r} {k} (old h a) g = absurd (never h g)
     never h g = omega arith
 labelled-new (new h a) g = a
 
--- ---- The day of a label
-module _ (leapAt : ℕ → Bool) (start : ℕ → ℕ) (y m d : ℕ) {b : Bool} {t : ℕ} (h : HeldYear (heldYear y)) (e : b ≡ leapAt (heldYear y)) (f : t ≡ start (heldYear y)) where
-  read-there : ThereIn b m d → There leapAt (heldYear y) m d
-  read-there v = (v .0, v .1, v .2, subst (λ (b : Bool). d ≤ monthLength b m) e (v .3))
-
-  read-at : {o : ℕ} → ThereIn b m d → daysBefore b m + d ≡ o → At leapAt start (t + o - 1) (heldYear y) m d o
-  read-at {o} v q = record {
-    held = h;
-    there = read-there v;
-    ordinal-is = ap (λ (b : Bool). daysBefore b m + d) (sym e) ∙ q;
-    adds = ap (λ (s : ℕ). s + o) (sym f) ∙ sum t (some (daysBefore b m) q (v .2));
-  }
-    where
-      some : (i : ℕ) → i + d ≡ o → 1 ≤ d → 1 ≤ o
-      some i u w = omega arith
-
-      sum : (s : ℕ) → 1 ≤ o → s + o ≡ s + o - 1 + 1
-      sum s u = omega arith
-
-  read-none : ¬ ThereIn b m d → ¬ There leapAt (heldYear y) m d
-  read-none n t = n (t .0, t .1, t .2, subst (λ (b : Bool). d ≤ monthLength b m) (sym e) (t .3))
-
-module _ {r y m d t : ℕ} {b : Bool} (h : HeldYear (heldYear y)) where
-  -- in the Julian reckoning
-  pub below-found : {s : S.Spot} → b ≡ J.leapAt (heldYear y) → t ≡ J.start (heldYear y) → Reads b t y m d (Read′.At s) → s .held < r → ReadsBelow r y m d (Read′.At s)
-  below-found e f (reads-at v q) g = below-at (old g (read-at J.leapAt J.start y m d h e f v q))
-
-  pub below-late : {s : S.Spot} → b ≡ J.leapAt (heldYear y) → t ≡ J.start (heldYear y) → Reads b t y m d (Read′.At s) → r ≤ s .held → ReadsBelow r y m d Read′.Nothing
-  below-late e f (reads-at v q) g = below-none (λ i. subst (λ (n : ℕ). r ≤ n) (sym (at-number (read-at J.leapAt J.start y m d h e f v q))) g)
-
-  pub below-not : b ≡ J.leapAt (heldYear y) → t ≡ J.start (heldYear y) → Reads b t y m d Read′.Nothing → ReadsBelow r y m d Read′.Nothing
-  below-not e f (reads-none n) = below-none (λ i. absurd (read-none J.leapAt J.start y m d h e f n i))
-
-  -- in the calendar
-  pub new-found : {s : S.Spot} → b ≡ G.leapAt (heldYear y) → t ≡ G.start (heldYear y) → Reads b t y m d (Read′.At s) → r ≤ s .held → Finds r y m d (Found′.At s)
-  new-found e f (reads-at v q) g = finds-at (new g (read-at G.leapAt G.start y m d h e f v q))
-
-  pub gap-found : {s : S.Spot} → b ≡ G.leapAt (heldYear y) → t ≡ G.start (heldYear y) → Reads b t y m d (Read′.At s) → s .held < r → ReadsBelow r y m d Read′.Nothing → Finds r y m d Found′.Skipped
-  gap-found e f (reads-at v q) g (below-none n) =
-      let i : There G.leapAt (heldYear y) m d = read-there G.leapAt G.start y m d h e f v in
-      finds-gap i (n (there-too (heldYear y) m d i)) (subst (λ (n : ℕ). n < r) (sym (at-number (read-at G.leapAt G.start y m d h e f v q))) g)
-
-  pub none-found : b ≡ G.leapAt (heldYear y) → t ≡ G.start (heldYear y) → Reads b t y m d Read′.Nothing → ReadsBelow r y m d Read′.Nothing → Finds r y m d Found′.Nowhere
-  none-found e f (reads-none n) (below-none l) = finds-none (read-none G.leapAt G.start y m d h e f n) l
-
--- no Julian day of a year that begins from r on is before r
-pub below-year : {r y m d t : ℕ} → t ≡ J.start (heldYear y) → r ≤ t → ReadsBelow r y m d Read′.Nothing
-below-year {r} {y} {m} {d} f g = below-none (λ i. after (daysBefore (J.leapAt (heldYear y)) m) (subst (λ (n : ℕ). r ≤ n) f g) (i .2))
-  where
-    after : (k : ℕ) {s : ℕ} → r ≤ s → 1 ≤ d → r ≤ s + k + d - 1
-    after k g i = omega arith
-
-pub old-found : {r y m d : ℕ} {s : S.Spot} → ReadsBelow r y m d (Read′.At s) → Finds r y m d (Found′.At s)
-old-found (below-at l) = finds-at l
-
 -- ---- The rows of a label
+found-on : (c : Calendar) {r : ℕ} → Runs (meant c) r → (y : ℕ) {m d k o : ℕ} {z : ℤ} {a : Dated} → year y ≡ z → LabelledAt r k y m d o → Given c (year y) (day k) a → ByLabel c z m d a
+found-on c runs y {m} {d} {k} {z = z} {a} e l g =
+    let f : labels c (day k) ≡ label z m d = labelled-is c runs l ∙ ap (λ (z : ℤ). label z m d) e in
+    passes (λ n. n .0 (day k, f)) (passes (λ s. skipped-nowhere (runs .accepted) s (day k, f)) (on-label f (subst (λ (z : ℤ). Given c z (day k) a) e g)))
+
 module _ (c : Calendar) {r : ℕ} (runs : Runs (meant c) r) {y m d : ℕ} {z : ℤ} (h : HeldYear (heldYear y)) (e : year (heldYear y) ≡ z) where
   pub found-spot : {s : S.Spot} → Finds r y m d (Found′.At s) → OnSpot r s
-  found-spot (finds-at l) = l
+  found-spot (finds-old g a) = old g a
+  found-spot (finds-new g a n) = new g a
 
   pub found-row : {s : S.Spot} {a : Dated} → Finds r y m d (Found′.At s) → Given c (year (heldYear (s .year))) (day (s .held)) a → ByLabel c z m d a
-  found-row {a = a} (finds-at {k} l) g =
-      let f : labels c (day k) ≡ label z m d = labelled-is c runs l ∙ ap (λ (z : ℤ). label z m d) e in
-      passes (λ n. n .0 (day k, f)) (passes (λ s. skipped-nowhere (runs .accepted) s (day k, f)) (on-label f (subst (λ (z : ℤ). Given c z (day k) a) e g)))
+  found-row (finds-old g a) i = found-on c runs (heldYear y) e (old g a) i
+  found-row (finds-new g a n) i = found-on c runs (heldYear y) e (new g a) i
 
   pub skipped-row : Finds r y m d Found′.Skipped → ByLabel c z m d (refused 5 (pos d))
   skipped-row (finds-gap t u v) = let s = in-gap runs (heldYear y) m d e h t u v in passes (λ n. n .1 s) (refuses s)
@@ -295,22 +225,6 @@ given-none e (within w) = let z : _≡_ {A = ℕ} 0 1 = cc in omega arith
 given-none e (beyond b) = let z : _≡_ {A = ℕ} 0 1 = cc in omega arith
 
 -- ---- The rows of an ordinal
-next-start : {leapAt : ℕ → Bool} {start : ℕ → ℕ} {reckoning : D.Reckoning} → Starts reckoning leapAt start → (y : ℕ) → start (y + 1) ≡ start y + yearLength (leapAt y)
-next-start {start = start} s y = ap start (add-one y) ∙ s .start-next y
-
--- the first days of a year and of the next, as they are computed
-pub year-span-is : (r y : ℕ) {a b l n : ℕ} → y < 4_294_967_648 → a ≡ J.start y → b ≡ G.start y → l ≡ yearLength (J.leapAt y) → n ≡ yearLength (G.leapAt y)
-    → {i j : ℕ} → i ≡ firstDay r a b → j ≡ firstDay r (a + l) (b + n) → YearSpan r y i j
-year-span-is r y {a} {b} {l} {n} h e f g k p q = record {
-  first-is = p ∙ ap₂ (firstDay r) e f;
-  past-is = q ∙ ap₂ (firstDay r) (ap₂ _+_ e g ∙ sym (next-start J.starts y)) (ap₂ _+_ f k ∙ sym (next-start G.starts y));
-  first-room = rw p (room a b (omega arith) (omega arith));
-  past-room = rw q (room (a + l) (b + n) (omega (arith, year-most (J.leapAt y))) (omega (arith, year-most (G.leapAt y))));
-}
-  where
-    room : (j g : ℕ) → j < top → g < top → firstDay r j g < top
-    room j g u v = first-cases r j g (λ x e. omega arith) (λ x z e. omega arith) (λ x z e. omega arith)
-
 module _ (c : Calendar) {r : ℕ} (runs : Runs (meant c) r) (y o : ℕ) {a b : ℕ} {z : ℤ} (h : HeldYear (heldYear y)) (e : year (heldYear y) ≡ z) (s : YearSpan r (heldYear y) a b) where
   abbrev days-of : Stretch (labels c) (OfYear (year (heldYear y))) dayBias (yearFirst r (heldYear y)) (yearFirst r (heldYear y + 1))
   days-of = year-stretch runs (heldYear y) h
@@ -385,21 +299,6 @@ switch-runs c (switches-at p) = p
 
 pub switch-made-up : (c : Calendar) → SwitchIs c Switch′.MadeUp → ¬ Accepted c
 switch-made-up c (no-calendar n) = n
-
--- ---- A reading from the ordinal of a month and a day
-pub ordinal-some : {leap : Bool} {m d o : ℕ} → OrdinalOf leap m d (DayOrdinal′.At o) → 1 ≤ o
-ordinal-some (ordinal p) = p .from
-
-pub ordinal-sum : {leap : Bool} {m d o : ℕ} → OrdinalOf leap m d (DayOrdinal′.At o) → ThereIn leap m d × (daysBefore leap m + d ≡ o)
-ordinal-sum {leap} {m} {d} (ordinal p) =
-    let (v, f, t) = in-year-valid leap p in
-    ((v .0, v .1, f, t), in-year-ordinal (in-year-month leap m d v f t) p)
-
-pub reading-at : {leap : Bool} {t y m d o : ℕ} → OrdinalOf leap m d (DayOrdinal′.At o) → Reads leap t y m d (Read′.At (spot (t + o - 1) y o m d))
-reading-at p = let (v, e) = ordinal-sum p in reads-at v e
-
-pub reading-none : {leap : Bool} {t y m d : ℕ} → OrdinalOf leap m d DayOrdinal′.Nothing → Reads leap t y m d Read′.Nothing
-reading-none {leap} {m = m} {d} (no-ordinal n) = reads-none (λ v. n (daysBefore leap m + d) (in-year-month leap m d (v .0, v .1) (v .2) (v .3)))
 
 -- the first day of a month in the Julian reckoning
 pub julian-month-is : {leap : Bool} (y : ℕ) {m o t : ℕ} → leap ≡ J.leapAt y → t ≡ J.start y → OrdinalOf leap m 1 (DayOrdinal′.At o) → t + o - 1 ≡ julianMonth y m

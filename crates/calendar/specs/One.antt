@@ -4,7 +4,7 @@ use mathlib.Core.Path.{_≡_, refl, sym, _∙_, ap, subst}
 use mathlib.Core.Bool.{Bool, true, false}
 use Prim.Native.Nat.{ℕ}
 use lib.IntN.{ℤ}
-use Rattle.days.specs.DayByDay.{Label, label, OfYear, Place, Is32Bit}
+use Rattle.days.specs.DayByDay.{Label, label}
 use Rattle.days.specs.Rising.{once, place-one, nth-one}
 use Rattle.days.specs.Calendars.{accepted-rises}
 use Rattle.days.specs.Table.{judged-one}
@@ -12,13 +12,10 @@ use Rattle.days.specs.Runs.{runs-one}
 use Rattle.calendar.specs.declared.Calendar.{Calendar}
 use Rattle.calendar.specs.declared.Calendar.the-variants as Calendar′
 use Rattle.calendar.specs.declared.Date.{Date}
-use Rattle.calendar.specs.declared.Reformed.{Reformed}
 use Rattle.calendar.specs.declared.Switch.the-variants as Switch′
-use Rattle.calendar.specs.declared.Dated.{Dated}
 use Rattle.calendar.specs.declared.Dated.the-variants as Dated′
-use Rattle.calendar.specs.declared.ReformDate.{ReformDate}
 use Rattle.calendar.specs.declared.ReformDate.the-variants as ReformDate′
-use Rattle.calendar.specs.Calendars.{labels, Accepted, IsRecord, Genuine}
+use Rattle.calendar.specs.Calendars.{Accepted, IsRecord}
 use Rattle.calendar.specs.Rows.{One, unless-one, if-one, answers-one}
 use Rattle.calendar.specs.Promise.{outcomeIs, Reforms, judged, RecordOf, record-of, AtJdn, Given, OnLabel, on-label, AtYmd, OnOrdinal, on-ordinal, AtOrdinal, TellsCalendar, ReformationOf, reformDay, ReformRecord, never-julian, never-gregorian, reform-record, LastJulian, FirstGregorian, IsGenuine, TellsDate, CountsDate, Next, ConvertsTo}
 use Rattle.calendar.specs.Natural.{SwitchIs, switches-at, no-calendar}

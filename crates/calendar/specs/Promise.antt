@@ -4,7 +4,7 @@ use mathlib.Core.Bool.{Bool, true, false}
 use mathlib.Core.Logic.{_⊎_}
 use Prim.Native.Nat.{ℕ, _-_, _≤_, _<_}
 use lib.IntN.{ℤ, pos, _-ℤ_}
-use Rattle.days.specs.DayByDay.{Label, label, Borne, OfYear, Place, YearLength, Is32Bit, Style, weekday}
+use Rattle.days.specs.DayByDay.{Label, label, Borne, OfYear, Place, YearLength, Is32Bit, weekday}
 use Rattle.days.specs.Reformations.{Outcome, accepted, refused-1, refused-2, Judged}
 use Rattle.calendar.specs.declared.Calendar.{Calendar}
 use Rattle.calendar.specs.declared.Calendar.the-variants as Calendar′
@@ -22,7 +22,7 @@ use Rattle.calendar.specs.declared.ReformDay.{ReformDay}
 use Rattle.calendar.specs.declared.ReformDay.the-variants as ReformDay′
 use Rattle.calendar.specs.declared.ReformDate.{ReformDate}
 use Rattle.calendar.specs.declared.ReformDate.the-variants as ReformDate′
-use Rattle.calendar.specs.Calendars.{labels, Accepted, Skipped, IsRecord, Genuine, isReforming, styleIs}
+use Rattle.calendar.specs.Calendars.{labels, Accepted, Skipped, IsRecord, Genuine}
 use Rattle.calendar.specs.Rows.{Unless, If, Answers}
 
 -- ---- Refusals: number and value; the place is 0 in calls without a text

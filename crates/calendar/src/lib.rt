@@ -4,13 +4,11 @@
 ghost use mathlib.Core.Path.{_≡_};
 ghost use lib.IntN.{pos, sucℤ, predℤ};
 ghost use Rattle.days.specs.DayByDay.{weekday, JulianStyle, GregorianStyle};
-ghost use Rattle.days.specs.Runs.{firstDay};
 ghost use mathlib.Core.Bool.{not};
 ghost use Prim.Native.Nat.{_-_, _≤_};
 ghost use Rattle.calendar.specs.Calendars.{isReforming, styleIs};
 ghost use Rattle.calendar.specs.Promise.{refusal, refused, refusedReformation, Reforms, AtJdn, AtYmd, AtOrdinal, Next, ConvertsTo, IsGenuine, TellsCalendar, TellsDate, CountsDate, ReformationOf, reformDay, LastJulian, FirstGregorian};
-ghost use Rattle.inner.specs.Natural.{heldYear};
-ghost use Rattle.calendar.specs.Natural.{SwitchIs, YearSpan, ReformDateOf, fieldsOf, JulianStyleIs};
+ghost use Rattle.calendar.specs.Natural.{SwitchIs, ReformDateOf, fieldsOf, JulianStyleIs};
 use fields::Fields;
 use reformation::Judgement;
 use whole::counted;
@@ -107,38 +105,6 @@ pub fn switch_of(calendar: Calendar) -> Switch
             Judgement::Accepted(day) => Switch::At(day),
             Judgement::Refused(_) => Switch::MadeUp,
         },
-    }
-}
-
-// The first day of a year or a month, whose first label is on day `julian` in the one reckoning and on day `gregorian` in the other.
-pub fn first_day(switch: u64, julian: u64, gregorian: u64) -> u64
-    ensures { λ r. ⌜ r ≡ firstDay switch julian gregorian ⌝ }
-{
-    if julian < switch {
-        return julian;
-    }
-    if gregorian < switch {
-        return switch;
-    }
-    gregorian
-}
-
-// The first day of a raised year, and the first day past it. They are one day where the year has no day.
-pub struct Span {
-    pub first: u64,
-    pub past: u64,
-}
-
-pub fn year_span(switch: u64, year: u32) -> Span
-    ensures { λ s. ⌜ YearSpan switch (heldYear year) (s .first) (s .past) ⌝ }
-{
-    let julian = inner::julian_start(year);
-    let gregorian = inner::gregorian_start(year);
-    let julian_days = inner::days_in_year(inner::is_julian_leap(year)) as u64;
-    let gregorian_days = inner::days_in_year(inner::is_gregorian_leap(year)) as u64;
-    Span {
-        first: first_day(switch, julian, gregorian),
-        past: first_day(switch, julian + julian_days, gregorian + gregorian_days),
     }
 }
 

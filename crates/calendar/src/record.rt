@@ -8,21 +8,14 @@ ghost use Rattle.days.specs.Runs.{Runs, julianMonth};
 ghost use Rattle.inner.specs.Natural.{heldYear, MonthDayAt};
 ghost use Rattle.calendar.specs.Calendars.{meant, IsRecord};
 ghost use Rattle.calendar.specs.Promise.{Month, Given, ByLabel, ByOrdinal};
-ghost use Rattle.calendar.specs.Natural.{SpotAt, OnSpot, Finds, Reads, ReadsBelow, InYear, plainRecord};
+ghost use Rattle.calendar.specs.Natural.{SpotAt, OnSpot, InYear, plainRecord};
 use crate::Calendar;
 use crate::Date;
 use crate::Dated;
+use changeover::Found;
+use changeover::Spot;
 use inner::DayNumber;
 use inner::DayOrdinal;
-
-// A held day, with its raised year, and the ordinal, the month and the day of the month that it has in its own reckoning.
-pub struct Spot {
-    pub held: u64,
-    pub year: u32,
-    pub ordinal: u32,
-    pub month: u32,
-    pub day: u32,
-}
 
 // ---- From a day to its record
 
@@ -101,8 +94,16 @@ fn reform_record(calendar: Calendar, switch: u64, s: Spot, jdn: i32) -> Date
     ensures { λ d. ⌜ IsRecord calendar jdn d ⌝ }
 {
     let past = s.held + 1;
-    let year_first = crate::first_day(switch, inner::julian_start(s.year), past - s.ordinal as u64);
-    let month_first = crate::first_day(switch, julian_month(s.year, s.month), past - s.day as u64);
+    let year_first = changeover::first_day(
+        switch,
+        inner::julian_start(s.year),
+        past - s.ordinal as u64,
+    );
+    let month_first = changeover::first_day(
+        switch,
+        julian_month(s.year, s.month),
+        past - s.day as u64,
+    );
     Date {
         calendar: calendar,
         year: whole::lowered(s.year),
@@ -127,90 +128,14 @@ fn julian_month(year: u32, month: u32) -> u64
 
 // ---- From a label to its day
 
-pub enum Found {
-    At(Spot),
-    Skipped,
-    Nowhere,
-}
-
 pub fn on_label(calendar: Calendar, switch: u64, year: i32, month: u32, day: u32) -> Dated
     requires { ⌜ Runs (meant calendar) switch × Month month ⌝ }
     ensures { λ d. ⌜ ByLabel calendar year month day d ⌝ }
 {
-    match find(switch, whole::raised(year), month, day) {
+    match changeover::find(switch, whole::raised(year), month, day) {
         Found::At(s) => given(calendar, switch, s),
         Found::Skipped => crate::refused_count(5, day),
         Found::Nowhere => crate::refused_count(4, day),
-    }
-}
-
-// A label is on its Julian day where that is before the switch, and on its Gregorian day where that is not before it.
-fn find(switch: u64, year: u32, month: u32, day: u32) -> Found
-    requires { ⌜ Month month ⌝ }
-    ensures { λ f. ⌜ Finds switch year month day f ⌝ }
-{
-    match julian_below(switch, year, month, day) {
-        Read::At(s) => Found::At(s),
-        Read::Nothing => {
-            let new = reading(
-                inner::is_gregorian_leap(year),
-                inner::gregorian_start(year),
-                year,
-                month,
-                day,
-            );
-            match new {
-                Read::Nothing => Found::Nowhere,
-                Read::At(t) => {
-                    if switch <= t.held {
-                        return Found::At(t);
-                    }
-                    Found::Skipped
-                }
-            }
-        }
-    }
-}
-
-pub enum Read {
-    At(Spot),
-    Nothing,
-}
-
-// The day of a label in the Julian reckoning, where that is before the switch. There is none in a year that begins from the switch on.
-fn julian_below(switch: u64, year: u32, month: u32, day: u32) -> Read
-    requires { ⌜ Month month ⌝ }
-    ensures { λ r. ⌜ ReadsBelow switch year month day r ⌝ }
-{
-    let start = inner::julian_start(year);
-    if switch <= start {
-        return Read::Nothing;
-    }
-    match reading(inner::is_julian_leap(year), start, year, month, day) {
-        Read::Nothing => Read::Nothing,
-        Read::At(s) => {
-            if s.held < switch {
-                return Read::At(s);
-            }
-            Read::Nothing
-        }
-    }
-}
-
-// The day of a label in a reckoning, by the first day of the year and whether that is leap.
-fn reading(leap: bool, start: u64, year: u32, month: u32, day: u32) -> Read
-    requires { ⌜ start < 2_000_000_000_000 ⌝ }
-    ensures { λ r. ⌜ Reads leap start year month day r ⌝ }
-{
-    match inner::md2ordinal(leap, month, day) {
-        DayOrdinal::Nothing => Read::Nothing,
-        DayOrdinal::At(ordinal) => Read::At(Spot {
-            held: start + ordinal as u64 - 1,
-            year: year,
-            ordinal: ordinal,
-            month: month,
-            day: day,
-        }),
     }
 }
 
@@ -233,7 +158,7 @@ pub fn on_ordinal(calendar: Calendar, switch: u64, year: i32, ordinal: u32) -> D
     ensures { λ d. ⌜ ByOrdinal calendar year ordinal d ⌝ }
 {
     let y = whole::raised(year);
-    let span = crate::year_span(switch, y);
+    let span = changeover::year_span(switch, y);
     if ordinal < 1 {
         return crate::refused_count(6, ordinal);
     }

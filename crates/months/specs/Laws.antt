@@ -36,8 +36,8 @@ use Rattle.calendar.specs.declared.Dated.the-variants as Dated′
 use Rattle.calendar.specs.Calendars.{meant, labels, Skipped}
 use Rattle.calendar.specs.Rows.{refuses, passes}
 use Rattle.calendar.specs.Promise.{Month, Missing, Given, AtYmd, on-label}
-use Rattle.calendar.specs.Natural.{YearSpan}
-use Rattle.calendar.specs.Laws.{ordinal-sum}
+use Rattle.changeover.specs.Spots.{YearSpan}
+use Rattle.changeover.specs.Laws.{ordinal-sum}
 use Rattle.months.specs.declared.MonthShape.{MonthShape}
 use Rattle.months.specs.declared.PlainMonth.{PlainMonth}
 use Rattle.months.specs.declared.Shaped.the-variants as Shaped′

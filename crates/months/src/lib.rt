@@ -17,7 +17,7 @@ use calendar::Switch;
 use calendar::Told;
 use calendar::refusal_of;
 use calendar::switch_of;
-use calendar::year_span;
+use changeover::year_span;
 use inner::DayOrdinal;
 use whole::counted;
 use whole::raised;
@@ -197,8 +197,8 @@ fn shape_in(switch: u64, year: u32, month: u32) -> MonthShape
         julian_days: old.days,
         gregorian: new.first,
         gregorian_days: new.days,
-        first: calendar::first_day(switch, old.first, new.first),
-        past: calendar::first_day(
+        first: changeover::first_day(switch, old.first, new.first),
+        past: changeover::first_day(
             switch,
             old.first + old.days as u64,
             new.first + new.days as u64,

@@ -7,7 +7,7 @@ use lib.IntN.{ℤ}
 use Rattle.whole.specs.Biased.{unbias}
 use Rattle.whole.specs.Integers.{unbias-le}
 use Rattle.days.specs.Held.{dayBias, day}
-use Rattle.days.specs.Reformations.{Outcome, accepted, refused-1, refused-2, Judged, Row, row-1, row-2, row-3, row-4, row-5}
+use Rattle.days.specs.Reformations.{Outcome, Judged, Row, row-1, row-2, row-3, row-4, row-5}
 use Rattle.days.specs.Table.{fits-held, table-holds}
 use Rattle.inner.specs.Natural.{heldDay}
 use Rattle.inner.specs.Laws.{held-day, raised-day-held}

@@ -5,7 +5,8 @@ use native.Mathlib.Omega.{arith}
 use borrow.Author.Needs.{needs}
 use Rattle.inner.specs.Promise.{OrdinalOf}
 use Rattle.inner.specs.declared.DayOrdinal.the-variants as DayOrdinal′
-use Rattle.calendar.specs.Laws.{ordinal-some, month-has-first}
+use Rattle.changeover.specs.Laws.{ordinal-some}
+use Rattle.calendar.specs.Laws.{month-has-first}
 use Rattle.months.specs.Laws.{month-in-is}
 use Rattle.months.proofs.month_in.Statement.{statement}
 use Rattle.months.proofs.month_in.Tie as tie

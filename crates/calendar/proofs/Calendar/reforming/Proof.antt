@@ -1,6 +1,6 @@
 -- `calendar::Calendar::reforming` meets its promise.
 -- Assumes nothing.
-use mathlib.Core.Path.{_≡_, sym, subst}
+use mathlib.Core.Path.{sym, subst}
 use Prim.Native.Nat.{_-_}
 use lib.IntN.{ℤ}
 use borrow.Author.Needs.{needs}

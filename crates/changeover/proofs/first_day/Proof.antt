@@ -1,10 +1,10 @@
--- `calendar::first_day` meets its contract.
+-- `changeover::first_day` meets its contract.
 -- Assumes nothing.
 use mathlib.Core.Path.{sym}
 use Prim.Native.Nat.{_-_}
 use Rattle.days.specs.Runs.{first-julian, first-reform, first-gregorian}
-use Rattle.calendar.proofs.first_day.Statement.{statement}
-use Rattle.calendar.proofs.first_day.Tie as tie
+use Rattle.changeover.proofs.first_day.Statement.{statement}
+use Rattle.changeover.proofs.first_day.Tie as tie
 
 returns : tie.Need-returns
 returns c = sym (first-julian _ _ (c .before .args .gregorian) (c .if1 .taken))

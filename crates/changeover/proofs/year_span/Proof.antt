@@ -1,4 +1,4 @@
--- `calendar::year_span` meets its contract.
+-- `changeover::year_span` meets its contract.
 -- Assumes nothing.
 use mathlib.Core.Bool.{Bool}
 use mathlib.Core.Path.{_∙_, ap}
@@ -7,9 +7,9 @@ use borrow.Author.Needs.{needs}
 use Rattle.days.specs.Year.{yearLength}
 use Rattle.inner.specs.Laws.{raised-year-held}
 use Rattle.inner.specs.Natural.{heldYear}
-use Rattle.calendar.specs.Laws.{year-span-is}
-use Rattle.calendar.proofs.year_span.Statement.{statement}
-use Rattle.calendar.proofs.year_span.Tie as tie
+use Rattle.changeover.specs.Laws.{year-span-is}
+use Rattle.changeover.proofs.year_span.Statement.{statement}
+use Rattle.changeover.proofs.year_span.Tie as tie
 
 julian-start-requires : tie.Need-julian-start-requires
 julian-start-requires c κs = search needs

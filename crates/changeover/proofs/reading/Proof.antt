@@ -1,13 +1,13 @@
--- `calendar::record::reading` meets its contract.
+-- `changeover::reading` meets its contract.
 -- Assumes nothing.
 use Prim.Native.Nat.{_-_}
 use native.Mathlib.Omega.{arith}
 use borrow.Author.Needs.{needs}
 use Rattle.inner.specs.Promise.{OrdinalOf}
 use Rattle.inner.specs.declared.DayOrdinal.the-variants as DayOrdinal′
-use Rattle.calendar.specs.Laws.{reading-at, reading-none, ordinal-some}
-use Rattle.calendar.proofs.record.reading.Statement.{statement}
-use Rattle.calendar.proofs.record.reading.Tie as tie
+use Rattle.changeover.specs.Laws.{reading-at, reading-none, ordinal-some}
+use Rattle.changeover.proofs.reading.Statement.{statement}
+use Rattle.changeover.proofs.reading.Tie as tie
 
 at : (c : tie.After-known-told) → OrdinalOf (c .before .before .before .before .args .leap) (c .before .before .before .before .args .month) (c .before .before .before .before .args .day) (DayOrdinal′.At (c .before .ordinal .given .0 .0))
 at c = rw (c .before .ordinal .given .1) at (c .before .before .before .md2ordinal .ensures)

@@ -1,11 +1,11 @@
--- `calendar::record::julian_below` meets its contract.
+-- `changeover::julian_below` meets its contract.
 -- Assumes nothing.
 use Prim.Native.Nat.{_-_}
 use borrow.Author.Needs.{needs}
 use Rattle.inner.specs.Laws.{raised-year-held}
-use Rattle.calendar.specs.Laws.{below-year, below-found, below-late, below-not}
-use Rattle.calendar.proofs.record.julian_below.Statement.{statement}
-use Rattle.calendar.proofs.record.julian_below.Tie as tie
+use Rattle.changeover.specs.Laws.{below-year, below-found, below-late, below-not}
+use Rattle.changeover.proofs.julian_below.Statement.{statement}
+use Rattle.changeover.proofs.julian_below.Tie as tie
 
 julian-start-requires : tie.Need-julian-start-requires
 julian-start-requires c κs = search needs

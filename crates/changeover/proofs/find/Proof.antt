@@ -1,11 +1,11 @@
--- `calendar::record::find` meets its contract, way by way.
+-- `changeover::find` meets its contract, way by way.
 -- Assumes nothing.
 use Prim.Native.Nat.{_-_}
 use borrow.Author.Needs.{needs}
 use Rattle.inner.specs.Laws.{raised-year-held}
-use Rattle.calendar.specs.Laws.{new-found, gap-found, none-found, old-found}
-use Rattle.calendar.proofs.record.find.Statement.{statement}
-use Rattle.calendar.proofs.record.find.Tie as tie
+use Rattle.changeover.specs.Laws.{new-found, gap-found, none-found, old-found}
+use Rattle.changeover.proofs.find.Statement.{statement}
+use Rattle.changeover.proofs.find.Tie as tie
 
 julian-below-requires : tie.Need-julian-below-requires
 julian-below-requires c κs = search needs
@@ -37,7 +37,7 @@ returns c =
     let e = n .before .before .before in
     let j = e .before .before in
     new-found (raised-year-held (j .before .fits .year .fits)) (n .before .before .is-gregorian-leap .ensures) (n .before .gregorian-start .ensures)
-    (rw (c .before .before .before .new .given .1) at (n .reading .ensures)) (c .if1 .taken)
+    (rw (c .before .before .before .new .given .1) at (n .reading .ensures)) (c .if1 .taken) (rw (e .enum-told .given .1) at (j .julian-below .ensures))
 
 returns-2 : tie.Need-returns-2
 returns-2 c = old-found (rw (c .before .s .given .1) at (c .before .before .before .julian-below .ensures))

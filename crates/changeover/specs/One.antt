@@ -1,0 +1,56 @@
+-- What is said of a label and of a year allows one answer, whatever the day on which the calendar goes over.
+-- Assumes nothing.
+use mathlib.Core.Path.{_≡_, refl, sym, _∙_, ap}
+use mathlib.Core.Bool.{Bool}
+use Prim.Native.Nat.{ℕ, _-_, _≤_, _<_}
+use native.Mathlib.Omega.{arith}
+use Rattle.days.specs.Julian as J
+use Rattle.days.specs.Gregorian as G
+use Rattle.days.specs.Numbers.{number}
+use Rattle.inner.specs.Natural.{heldYear}
+use Rattle.changeover.specs.declared.Found.{Found}
+use Rattle.changeover.specs.declared.Found.the-variants as Found′
+use Rattle.changeover.specs.Spots.{YearSpan, At, spot, NoneBelow, Finds, finds-old, finds-new, finds-gap, finds-none}
+use Rattle.changeover.specs.Laws.{at-number}
+
+pub year-span-one : (r y : ℕ) {a b i j : ℕ} → YearSpan r y a b → YearSpan r y i j → (a ≡ i) × (b ≡ j)
+year-span-one r y s t = (s .first-is ∙ sym (t .first-is), s .past-is ∙ sym (t .past-is))
+
+-- a label that is there has one day in a reckoning, and one ordinal
+module _ {leapAt : ℕ → Bool} {start : ℕ → ℕ} {k l y m d o p : ℕ} (z : ℕ) (a : At leapAt start k y m d o) (b : At leapAt start l y m d p) where
+  same-spot : spot k z o m d ≡ spot l z p m d
+  same-spot =
+      let e : k ≡ l = sym (at-number a) ∙ at-number b in
+      let f : o ≡ p = sym (a .ordinal-is) ∙ b .ordinal-is in
+      cc
+
+-- a Julian day before r leaves no room for an answer without one
+not-below : (y : ℕ) {r m d k o : ℕ} → k < r → At J.leapAt J.start k (heldYear y) m d o → NoneBelow r y m d → ⊥
+not-below y {r} {m} {d} {k} g a n = never (number J.leapAt J.start (heldYear y) m d) (at-number a) (n (a .there))
+  where
+    never : (i : ℕ) → i ≡ k → r ≤ i → ⊥
+    never i e h = omega arith
+
+pub finds-one : (r y m d : ℕ) (a b : Found) → Finds r y m d a → Finds r y m d b → a ≡ b
+finds-one r y m d a b (finds-old g s) (finds-old h t) = ap Found′.At (same-spot y s t)
+finds-one r y m d a b (finds-old g s) (finds-new h t n) = absurd (not-below y g s n)
+finds-one r y m d a b (finds-old g s) (finds-gap t n h) = absurd (not-below y g s (λ i. n))
+finds-one r y m d a b (finds-old g s) (finds-none t n) = absurd (not-below y g s n)
+finds-one r y m d a b (finds-new g s n) (finds-old h t) = absurd (not-below y h t n)
+finds-one r y m d a b (finds-new g s n) (finds-new h t k) = ap Found′.At (same-spot y s t)
+finds-one r y m d a b (finds-new {k} g s n) (finds-gap t i h) = absurd (never (number G.leapAt G.start (heldYear y) m d) (at-number s) h)
+  where
+    never : (j : ℕ) → j ≡ k → j < r → ⊥
+    never j e f = omega arith
+finds-one r y m d a b (finds-new g s n) (finds-none t i) = absurd (t (s .there))
+finds-one r y m d a b (finds-gap s n g) (finds-old h t) = absurd (not-below y h t (λ i. n))
+finds-one r y m d a b (finds-gap s n g) (finds-new {k} h t i) = absurd (never (number G.leapAt G.start (heldYear y) m d) (at-number t) g)
+  where
+    never : (j : ℕ) → j ≡ k → j < r → ⊥
+    never j e f = omega arith
+finds-one r y m d a b (finds-gap s n g) (finds-gap t i h) = refl
+finds-one r y m d a b (finds-gap s n g) (finds-none t i) = absurd (t s)
+finds-one r y m d a b (finds-none s n) (finds-old h t) = absurd (not-below y h t n)
+finds-one r y m d a b (finds-none s n) (finds-new h t i) = absurd (s (t .there))
+finds-one r y m d a b (finds-none s n) (finds-gap t i h) = absurd (s t)
+finds-one r y m d a b (finds-none s n) (finds-none t i) = refl

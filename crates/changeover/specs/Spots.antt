@@ -1,0 +1,64 @@
+-- What the functions say, of days and years that are held as naturals and of a calendar that goes over on the held day r.
+-- Assumes nothing.
+use mathlib.Core.Path.{_≡_}
+use mathlib.Core.Bool.{Bool}
+use Prim.Native.Nat.{ℕ, _+_, _-_, _≤_, _<_}
+use Rattle.days.specs.DayByDay.{monthLength}
+use Rattle.days.specs.Held.{HeldYear}
+use Rattle.days.specs.Julian as J
+use Rattle.days.specs.Gregorian as G
+use Rattle.days.specs.Numbers.{There, number, daysBefore}
+use Rattle.days.specs.Runs.{top, yearFirst}
+use Rattle.inner.specs.Natural.{heldYear}
+use Rattle.changeover.specs.declared.Spot.{Spot}
+use Rattle.changeover.specs.declared.Found.{Found}
+use Rattle.changeover.specs.declared.Found.the-variants as Found′
+use Rattle.changeover.specs.declared.Read.{Read}
+use Rattle.changeover.specs.declared.Read.the-variants as Read′
+
+-- the first day of a held year, and the first day past it
+pub record YearSpan (r y a b : ℕ) : Type 0 where
+  pub first-is : a ≡ yearFirst r y
+  pub past-is : b ≡ yearFirst r (y + 1)
+  pub first-room : a < top
+  pub past-room : b < top
+
+-- in one reckoning day k is the day d of the month m of the year y, and the o-th of that year
+pub record At (leapAt : ℕ → Bool) (start : ℕ → ℕ) (k y m d o : ℕ) : Type 0 where
+  pub held : HeldYear y
+  pub there : There leapAt y m d
+  pub ordinal-is : daysBefore (leapAt y) m + d ≡ o
+  pub adds : start y + o ≡ k + 1
+
+-- in the reckoning that labels it
+pub data LabelledAt (r k y m d o : ℕ) : Type 0 where
+  old : k < r → At J.leapAt J.start k y m d o → LabelledAt r k y m d o
+  new : r ≤ k → At G.leapAt G.start k y m d o → LabelledAt r k y m d o
+
+abbrev pub spot : ℕ → ℕ → ℕ → ℕ → ℕ → Spot
+spot k y o m d = record { held = k; year = y; ordinal = o; month = m; day = d }
+
+-- day d of month m is there, in a year that is leap or not
+abbrev pub ThereIn : Bool → ℕ → ℕ → Type 0
+ThereIn leap m d = (1 ≤ m) × (m ≤ 12) × (1 ≤ d) × (d ≤ monthLength leap m)
+
+-- the day of a label in a year that starts on a held day, and is leap or not
+pub data Reads (leap : Bool) (start y m d : ℕ) : Read → Type 0 where
+  reads-at : {o : ℕ} → ThereIn leap m d → daysBefore leap m + d ≡ o → Reads leap start y m d (Read′.At (spot (start + o - 1) y o m d))
+  reads-none : ¬ ThereIn leap m d → Reads leap start y m d Read′.Nothing
+
+-- no Julian day before r bears the label
+abbrev pub NoneBelow : ℕ → ℕ → ℕ → ℕ → Type 0
+NoneBelow r y m d = There J.leapAt (heldYear y) m d → r ≤ number J.leapAt J.start (heldYear y) m d
+
+-- in the Julian reckoning, where that is before day r
+pub data ReadsBelow (r y m d : ℕ) : Read → Type 0 where
+  below-at : {k o : ℕ} → k < r → At J.leapAt J.start k (heldYear y) m d o → ReadsBelow r y m d (Read′.At (spot k y o m d))
+  below-none : NoneBelow r y m d → ReadsBelow r y m d Read′.Nothing
+
+-- the day of a label in the calendar: its Julian day where that is before r, and else its Gregorian day where that is not
+pub data Finds (r y m d : ℕ) : Found → Type 0 where
+  finds-old : {k o : ℕ} → k < r → At J.leapAt J.start k (heldYear y) m d o → Finds r y m d (Found′.At (spot k y o m d))
+  finds-new : {k o : ℕ} → r ≤ k → At G.leapAt G.start k (heldYear y) m d o → NoneBelow r y m d → Finds r y m d (Found′.At (spot k y o m d))
+  finds-gap : There G.leapAt (heldYear y) m d → r ≤ number J.leapAt J.start (heldYear y) m d → number G.leapAt G.start (heldYear y) m d < r → Finds r y m d Found′.Skipped
+  finds-none : ¬ There G.leapAt (heldYear y) m d → NoneBelow r y m d → Finds r y m d Found′.Nowhere

@@ -1,0 +1,128 @@
+// A calendar that goes over from the Julian reckoning to the Gregorian one on a held day, on naturals: which day bears a label, and where a
+// year begins and ends. A calendar of one reckoning goes over past every day that is looked at, or before all of them.
+
+ghost use mathlib.Core.Path.{_≡_};
+ghost use Prim.Native.Nat.{_<_};
+ghost use Rattle.days.specs.Runs.{firstDay};
+ghost use Rattle.inner.specs.Natural.{heldYear};
+ghost use Rattle.changeover.specs.Spots.{Reads, ReadsBelow, Finds, YearSpan};
+use inner::DayOrdinal;
+
+// ---- The days of a year
+
+// The first day of a year or a month, whose first label is on day `julian` in the one reckoning and on day `gregorian` in the other.
+pub fn first_day(switch: u64, julian: u64, gregorian: u64) -> u64
+    ensures { λ r. ⌜ r ≡ firstDay switch julian gregorian ⌝ }
+{
+    if julian < switch {
+        return julian;
+    }
+    if gregorian < switch {
+        return switch;
+    }
+    gregorian
+}
+
+// The first day of a raised year, and the first day past it. They are one day where the year has no day.
+pub struct Span {
+    pub first: u64,
+    pub past: u64,
+}
+
+pub fn year_span(switch: u64, year: u32) -> Span
+    ensures { λ s. ⌜ YearSpan switch (heldYear year) (s .first) (s .past) ⌝ }
+{
+    let julian = inner::julian_start(year);
+    let gregorian = inner::gregorian_start(year);
+    let julian_days = inner::days_in_year(inner::is_julian_leap(year)) as u64;
+    let gregorian_days = inner::days_in_year(inner::is_gregorian_leap(year)) as u64;
+    Span {
+        first: first_day(switch, julian, gregorian),
+        past: first_day(switch, julian + julian_days, gregorian + gregorian_days),
+    }
+}
+
+// ---- The day of a label
+
+// A held day, with its raised year, and the ordinal, the month and the day of the month that it has in its own reckoning.
+pub struct Spot {
+    pub held: u64,
+    pub year: u32,
+    pub ordinal: u32,
+    pub month: u32,
+    pub day: u32,
+}
+
+pub enum Found {
+    At(Spot),
+    Skipped,
+    Nowhere,
+}
+
+// A label is on its Julian day where that is before the switch, and on its Gregorian day where that is not before it.
+pub fn find(switch: u64, year: u32, month: u32, day: u32) -> Found
+    ensures { λ f. ⌜ Finds switch year month day f ⌝ }
+{
+    match julian_below(switch, year, month, day) {
+        Read::At(s) => Found::At(s),
+        Read::Nothing => {
+            let new = reading(
+                inner::is_gregorian_leap(year),
+                inner::gregorian_start(year),
+                year,
+                month,
+                day,
+            );
+            match new {
+                Read::Nothing => Found::Nowhere,
+                Read::At(t) => {
+                    if switch <= t.held {
+                        return Found::At(t);
+                    }
+                    Found::Skipped
+                }
+            }
+        }
+    }
+}
+
+enum Read {
+    At(Spot),
+    Nothing,
+}
+
+// The day of a label in the Julian reckoning, where that is before the switch. There is none in a year that begins from the switch on.
+fn julian_below(switch: u64, year: u32, month: u32, day: u32) -> Read
+    ensures { λ r. ⌜ ReadsBelow switch year month day r ⌝ }
+{
+    let start = inner::julian_start(year);
+    if switch <= start {
+        return Read::Nothing;
+    }
+    match reading(inner::is_julian_leap(year), start, year, month, day) {
+        Read::Nothing => Read::Nothing,
+        Read::At(s) => {
+            if s.held < switch {
+                return Read::At(s);
+            }
+            Read::Nothing
+        }
+    }
+}
+
+// The day of a label in a reckoning, by the first day of the year and whether that is leap.
+fn reading(leap: bool, start: u64, year: u32, month: u32, day: u32) -> Read
+    requires { ⌜ start < 2_000_000_000_000 ⌝ }
+    ensures { λ r. ⌜ Reads leap start year month day r ⌝ }
+{
+    match inner::md2ordinal(leap, month, day) {
+        DayOrdinal::Nothing => Read::Nothing,
+        DayOrdinal::At(ordinal) => Read::At(Spot {
+            held: start + ordinal as u64 - 1,
+            year: year,
+            ordinal: ordinal,
+            month: month,
+            day: day,
+        }),
+    }
+}
