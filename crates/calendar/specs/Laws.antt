@@ -48,7 +48,7 @@ use Rattle.calendar.specs.declared.Switch.the-variants as Switch′
 use Rattle.changeover.specs.declared.Spot as S
 use Rattle.changeover.specs.declared.Found.the-variants as Found′
 use Rattle.changeover.specs.Spots.{YearSpan, At, LabelledAt, old, new, spot, Finds, finds-old, finds-new, finds-gap, finds-none}
-use Rattle.changeover.specs.Laws.{at-number, at-from, at-few, ordinal-sum}
+use Rattle.changeover.specs.Laws.{starts-close, at-number, at-from, at-few, ordinal-sum}
 use Rattle.calendar.specs.declared.Refusal.{Refusal}
 use Rattle.calendar.specs.Calendars.{meant, labels, Accepted, IsRecord, Genuine, sameStyle, styleIs}
 use Rattle.calendar.specs.Rows.{refuses, passes}
@@ -135,13 +135,6 @@ module _ (c : Calendar) {r : ℕ} (runs : Runs (meant c) r) {k y m d o : ℕ} wh
       rest : (s b : ℕ) → s + o ≡ k + 1 → b + d ≡ o → k + 1 - (s + b) ≡ d
       rest s b e f = omega arith
 
--- the two first days of a year are close, and so no place is large
-close : (y : ℕ) → y < 4_294_967_648 → G.start y ≤ J.start y + 30_000_000
-close y h = sum (J.start y) ((y + 399) / 400) ((y + 99) / 100) (omega arith) (omega arith)
-  where
-    sum : (a c b : ℕ) → c ≤ 10_737_422 → b ≤ 42_949_678 → a + c + 16_106_132 - b ≤ a + 30_000_000
-    sum a c b h g = omega arith
-
 -- what a place in a reformed year asks of the machine
 module _ (r j g k d : ℕ) (a : g + d ≡ k + 1) (f : d ≤ 366) (n : g ≤ j + 30_000_366) (h : r ≤ k) where
   pub place-first : firstDay r j g ≤ k + 1
@@ -173,10 +166,10 @@ module _ {k y m d o : ℕ} (a : At G.leapAt G.start k y m d o) where
   day-in-month = omega (arith, at-few a, a .ordinal-is)
 
   pub year-close : G.start y ≤ J.start y + 30_000_366
-  year-close = omega (arith, close y (a .held .to))
+  year-close = omega (arith, starts-close y (a .held .to))
 
   pub month-close : gregorianMonth y m ≤ julianMonth y m + 30_000_366
-  month-close = sum (J.start y) (G.start y) (daysBefore (J.leapAt y) m) (daysBefore (G.leapAt y) m) (close y (a .held .to)) (few-before (G.leapAt y) m (a .there .0) (a .there .1))
+  month-close = sum (J.start y) (G.start y) (daysBefore (J.leapAt y) m) (daysBefore (G.leapAt y) m) (starts-close y (a .held .to)) (few-before (G.leapAt y) m (a .there .0) (a .there .1))
     where
       sum : (a b d e : ℕ) → b ≤ a + 30_000_000 → e ≤ 366 → b + e ≤ a + d + 30_000_366
       sum a b d e h k = omega arith

@@ -2,7 +2,7 @@
 -- Assumes nothing.
 use mathlib.Core.Path.{_≡_, sym, _∙_, ap, ap₂, subst}
 use mathlib.Core.Bool.{Bool}
-use Prim.Native.Nat.{ℕ, _+_, _-_, _<_, _≤_}
+use Prim.Native.Nat.{ℕ, _+_, _-_, _/_, _<_, _≤_}
 use native.Mathlib.Omega.{arith}
 use native.Mathlib.Numerals.{add-one}
 use Rattle.days.specs.DayByDay as D
@@ -98,6 +98,14 @@ pub old-found : {r y m d : ℕ} {s : S.Spot} → ReadsBelow r y m d (Read′.At 
 old-found (below-at g a) = finds-old g a
 
 -- ---- The days of a year
+
+-- its first days in the two reckonings are close, so no place in it is large
+pub starts-close : (y : ℕ) → y < 4_294_967_648 → G.start y ≤ J.start y + 30_000_000
+starts-close y h = sum (J.start y) ((y + 399) / 400) ((y + 99) / 100) (omega arith) (omega arith)
+  where
+    sum : (a c b : ℕ) → c ≤ 10_737_422 → b ≤ 42_949_678 → a + c + 16_106_132 - b ≤ a + 30_000_000
+    sum a c b h g = omega arith
+
 next-start : {leapAt : ℕ → Bool} {start : ℕ → ℕ} {reckoning : D.Reckoning} → Starts reckoning leapAt start → (y : ℕ) → start (y + 1) ≡ start y + yearLength (leapAt y)
 next-start {start = start} s y = ap start (add-one y) ∙ s .start-next y
 

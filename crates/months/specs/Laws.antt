@@ -3,7 +3,7 @@
 use mathlib.Core.Path.{_≡_, sym, _∙_, ap, ap₂, subst, subst₂}
 use mathlib.Core.Bool.{Bool, true, false}
 use mathlib.Core.Logic.{_⊎_, inl, inr, ⊎-elim}
-use Prim.Native.Nat.{ℕ, _+_, _-_, _/_, _<_, _≤_, _^_}
+use Prim.Native.Nat.{ℕ, _+_, _-_, _<_, _≤_, _^_}
 use native.Mathlib.Omega.{arith}
 use native.Mathlib.Numerals.{add-one}
 use borrow.Author.Tests.{lt-ltb, le-ltb}
@@ -37,7 +37,7 @@ use Rattle.calendar.specs.Calendars.{meant, labels, Skipped}
 use Rattle.calendar.specs.Rows.{refuses, passes}
 use Rattle.calendar.specs.Promise.{Month, Missing, Given, AtYmd, on-label}
 use Rattle.changeover.specs.Spots.{YearSpan}
-use Rattle.changeover.specs.Laws.{ordinal-sum}
+use Rattle.changeover.specs.Laws.{starts-close, ordinal-sum}
 use Rattle.months.specs.declared.MonthShape.{MonthShape}
 use Rattle.months.specs.declared.PlainMonth.{PlainMonth}
 use Rattle.months.specs.declared.Shaped.the-variants as Shaped′
@@ -48,13 +48,6 @@ use Rattle.months.specs.One.{label-of-month}
 use Rattle.months.specs.Natural.{MonthIn, ShapeIn, ShapeOf, Shapes, shaped, no-calendar, no-month, Inside, dayIn, Findable, Finds, on-julian, on-gregorian, in-gap, no-day, past-julian, past-gregorian}
 
 -- ---- The machine's room
-
--- the first days of a year in the two reckonings are close
-close : (y : ℕ) → y < 4_294_967_648 → G.start y ≤ J.start y + 30_000_000
-close y h = sum (J.start y) ((y + 399) / 400) ((y + 99) / 100) (omega arith) (omega arith)
-  where
-    sum : (a c b : ℕ) → c ≤ 10_737_422 → b ≤ 42_949_678 → a + c + 16_106_132 - b ≤ a + 30_000_000
-    sum a c b h g = omega arith
 
 -- so the days of a year or a month are few
 span-few : (r j g j′ g′ : ℕ) → g ≤ j + 30_000_366 → j′ ≤ j + 366 → g′ ≤ g + 366 → firstDay r j′ g′ - firstDay r j g < 2 ^ 32
@@ -68,7 +61,7 @@ module _ (y : ℕ) (h : HeldYear y) where
   julian-start-room = omega (arith, h .to)
 
   gregorian-start-room : G.start y < 3_000_000_000_000
-  gregorian-start-room = omega (arith, close y (h .to), julian-few)
+  gregorian-start-room = omega (arith, starts-close y (h .to), julian-few)
     where
       julian-few : J.start y < 2_000_000_000_000
       julian-few = omega (arith, h .to)
@@ -94,7 +87,7 @@ module _ (y : ℕ) (h : HeldYear y) where
 
     month-few : (r : ℕ) → monthPast r y m - monthFirst r y m < 2 ^ 32
     month-few r = span-few r (julianMonth y m) (gregorianMonth y m) (julianMonth y m + monthLength (J.leapAt y) m) (gregorianMonth y m + monthLength (G.leapAt y) m)
-        (sum (J.start y) (G.start y) (daysBefore (J.leapAt y) m) (daysBefore (G.leapAt y) m) (close y (h .to)) (few-before (G.leapAt y) m (v .0) (v .1)))
+        (sum (J.start y) (G.start y) (daysBefore (J.leapAt y) m) (daysBefore (G.leapAt y) m) (starts-close y (h .to)) (few-before (G.leapAt y) m (v .0) (v .1)))
         (more (julianMonth y m) (month-most (J.leapAt y) m (v .0) (v .1)))
         (more (gregorianMonth y m) (month-most (G.leapAt y) m (v .0) (v .1)))
       where
@@ -117,7 +110,7 @@ module _ (c : Calendar) {r y a b : ℕ} {z : ℤ} (runs : Runs (meant c) r) (h :
 
   pub year-few : b - a < 2 ^ 32
   year-few = subst₂ (λ (a b : ℕ). b - a < 2 ^ 32) (sym (s .first-is)) (sym (s .past-is))
-      (span-few r (J.start y) (G.start y) (J.start (y + 1)) (G.start (y + 1)) (omega (arith, close y (h .to))) (next-start J.starts y) (next-start G.starts y))
+      (span-few r (J.start y) (G.start y) (J.start (y + 1)) (G.start (y + 1)) (omega (arith, starts-close y (h .to))) (next-start J.starts y) (next-start G.starts y))
 
   pub year-row : YearLengthOf c z (Counted′.Number (b - a))
   year-row = passes (runs .accepted) (P.number (year-days .days))
