@@ -11,6 +11,7 @@ ghost use Rattle.calendar.specs.Promise.{refusal, refused, refusedReform
 ghost use Rattle.calendar.specs.Natural.{SwitchIs, ReformDateOf, fieldsOf, JulianStyleIs};
 use fields::Fields;
 use reformation::Judgement;
+pub use weekday::Weekday;
 use whole::counted;
 use whole::lowered;
 use whole::raised;
@@ -287,19 +288,6 @@ fn reform_day(calendar: Calendar) -> ReformDay
 }
 
 // ---- Dates
-
-// The days of the week, from 1, a Monday, to 7.
-pub struct Weekday {
-    pub number: u32,
-}
-
-impl Weekday {
-    pub fn for_jdn(jdn: i32) -> u32
-        ensures { λ w. ⌜ w ≡ weekday jdn ⌝ }
-    {
-        ((raised(jdn) as u64 + 5) % 7 + 1) as u32
-    }
-}
 
 impl Date {
     // Whether the record is one that an accepted call gives: that of its day number in its calendar.

@@ -1,0 +1,16 @@
+// The days of the week, from 1, a Monday, to 7.
+
+ghost use mathlib.Core.Path.{_≡_};
+ghost use Rattle.days.specs.DayByDay.{weekday};
+
+pub struct Weekday {
+    pub number: u32,
+}
+
+impl Weekday {
+    pub fn for_jdn(jdn: i32) -> u32
+        ensures { λ w. ⌜ w ≡ weekday jdn ⌝ }
+    {
+        ((whole::raised(jdn) as u64 + 5) % 7 + 1) as u32
+    }
+}
