@@ -2,7 +2,7 @@
 -- computed one (`complete`). So two answers that a promise allows are one (`one`).
 -- Assumes nothing.
 use Prim.Native.Nat.{ℕ, _+_, _-_, _≤_, _<_}
-use mathlib.Core.Path.{_≡_, refl, sym, _∙_, ap, ap₂, subst}
+use mathlib.Core.Path.{_≡_, refl, sym, _∙_, ap, subst}
 use mathlib.Core.Bool.{Bool, true, false}
 use mathlib.Core.List.{List, [], _∷_, _++_, append-assoc}
 use native.Mathlib.Omega.{arith}
@@ -10,11 +10,10 @@ use lib.ListN.{length, drop, length-append}
 use lib.IntN.{ℤ, pos, negℤ}
 use lib.Dec.{leb, ltb, eqb}
 use borrow.Author.Tests.{leb-true, leb-false, ltb-true, ltb-false, ne-eqb, eqb-true, eqb-false}
-use denote.Ref.{RefT}
 use Rattle.calendar.specs.declared.Refusal.{Refusal}
 use Rattle.whole.specs.Edge.{signedOf}
 use Rattle.numbertext.specs.Numerals.{plus, dash, valueOf, refusal, Digits, Numeral, Signed, Stops, NoNumber, NoSigned, NoDash}
-use Rattle.numbertext.specs.Promise.{NumberFrom, SignedFrom, DashFrom, EndFrom, At, NumberAt, SignedAt, DashAt, EndAt, afterNumber, afterSigned, afterDash, Moves}
+use Rattle.numbertext.specs.Promise.{NumberFrom, SignedFrom, DashFrom, EndFrom, At, NumberAt, SignedAt, DashAt, EndAt}
 use Rattle.numbertext.specs.Reading.{pick, isDigit, front, runFrom, runOf, placed, noNumber, toNumber, readNumber, theNumber, limitOf, toSigned, signedRun, readSigned, theSigned, readDash, theDash, readEnd, theEnd}
 use Rattle.numbertext.specs.Digits.{pick-no, digit-is, is-digit, digit-not, not-digit, front-yes, front-no, run-empty, run-value, run-over, placed-past, placed-in}
 use Rattle.numbertext.specs.declared.Run.{Run}
@@ -22,7 +21,6 @@ use Rattle.numbertext.specs.declared.Number.{Number}
 use Rattle.numbertext.specs.declared.SignedNumber.{SignedNumber}
 use Rattle.numbertext.specs.declared.Dash.{Dash}
 use Rattle.numbertext.specs.declared.End.{End}
-use Rattle.numbertext.specs.declared.Reader.{Reader}
 
 -- ---- the digits that come first, and what comes after them
 
@@ -309,23 +307,3 @@ module _ {s : List ℕ} {at : ℕ} where
 
   pub end-one : {r q : End} → EndAt s at r → EndAt s at q → r ≡ q
   end-one h k = end-is h ∙ sym (end-is k)
-
--- a reader's move has one answer, and leaves one reader
-moves-one : {A : Type 0} {ReadAt : List ℕ → ℕ → A → Type 0} {after : A → ℕ → ℕ} → ((s : List ℕ) (at : ℕ) (x y : A) → ReadAt s at x → ReadAt s at y → x ≡ y)
-    → {r r₁ r₂ : Reader} {x y : A} → Moves ReadAt after r r₁ x → Moves ReadAt after r r₂ y → (x ≡ y) × (r₁ ≡ r₂)
-moves-one {A} {ReadAt} {after} one {r} {r₁} {r₂} {x} {y} h k =
-    let e : x ≡ y = one _ _ x y (h .answer) (k .answer) in
-    (e, ap₂ reader (h .holds ∙ sym (k .holds)) (h .stands ∙ ap (λ (z : A). after z (r .at)) e ∙ sym (k .stands)))
-  where
-    reader : RefT (List ℕ) → ℕ → Reader
-    reader s n = record { src = s; at = n }
-
-module _ {r r₁ r₂ : Reader} where
-  pub number-move-one : {x y : Number} → Moves NumberAt afterNumber r r₁ x → Moves NumberAt afterNumber r r₂ y → (x ≡ y) × (r₁ ≡ r₂)
-  number-move-one = moves-one (λ s at x y. number-one)
-
-  pub signed-move-one : {x y : SignedNumber} → Moves SignedAt afterSigned r r₁ x → Moves SignedAt afterSigned r r₂ y → (x ≡ y) × (r₁ ≡ r₂)
-  signed-move-one = moves-one (λ s at x y. signed-one)
-
-  pub dash-move-one : {x y : Dash} → Moves DashAt afterDash r r₁ x → Moves DashAt afterDash r r₂ y → (x ≡ y) × (r₁ ≡ r₂)
-  dash-move-one = moves-one (λ s at x y. dash-one)

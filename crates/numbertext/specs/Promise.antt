@@ -1,18 +1,15 @@
--- What the public functions promise: of a read at a place of the bytes, and of a reader that goes along them.
+-- What the public functions promise of a read at a place of the bytes.
 -- Assumes nothing.
 use Prim.Native.Nat.{ℕ, _+_, _≤_, _<_}
-use mathlib.Core.Path.{_≡_}
 use mathlib.Core.List.{List, [], _∷_, _++_}
 use lib.ListN.{length, drop}
 use lib.IntN.{ℤ, pos}
-use denote.Ref.{now}
 use Rattle.calendar.specs.declared.Refusal.{Refusal}
 use Rattle.numbertext.specs.Numerals.{dash, refusal, Unsigned, Signed, Stops, NoNumber, NoSigned, NoDash}
 use Rattle.numbertext.specs.declared.Number.{Number}
 use Rattle.numbertext.specs.declared.SignedNumber.{SignedNumber}
 use Rattle.numbertext.specs.declared.Dash.{Dash}
 use Rattle.numbertext.specs.declared.End.{End}
-use Rattle.numbertext.specs.declared.Reader.{Reader}
 
 -- ---- what the bytes from a place on say
 
@@ -52,24 +49,3 @@ DashAt = At Dash.Refused DashFrom
 
 abbrev pub EndAt : List ℕ → ℕ → End → Type 0
 EndAt = At End.Refused EndFrom
-
--- ---- a reader
-
--- the place after what was read at `at`; a refused read does not move
-abbrev pub afterNumber : Number → ℕ → ℕ
-afterNumber (Number.Value n next) at = next
-afterNumber (Number.Refused f) at = at
-
-abbrev pub afterSigned : SignedNumber → ℕ → ℕ
-afterSigned (SignedNumber.Value y next) at = next
-afterSigned (SignedNumber.Refused f) at = at
-
-abbrev pub afterDash : Dash → ℕ → ℕ
-afterDash (Dash.Next next) at = next
-afterDash (Dash.Refused f) at = at
-
--- a read by a reader that was `r` and is `r′` then: the answer is that of a read at its place, it holds the same bytes, and it stands after what was read
-pub record Moves {A : Type 0} (ReadAt : List ℕ → ℕ → A → Type 0) (after : A → ℕ → ℕ) (r r′ : Reader) (x : A) : Type 0 where
-  pub answer : ReadAt (now (r .src)) (r .at) x
-  pub holds : r′ .src ≡ r .src
-  pub stands : r′ .at ≡ after x (r .at)

@@ -1,8 +1,8 @@
--- `numbertext::after_dash` meets its contract: each arm is given which answer it has, and `afterDash` computes there.
+-- `reader::after_dash` meets its contract: each arm is given which answer it has, and `afterDash` computes there.
 -- Assumes nothing.
 use borrow.Author.Needs.{needs}
-use Rattle.numbertext.proofs.after_dash.Statement.{statement}
-use Rattle.numbertext.proofs.after_dash.Tie as tie
+use Rattle.reader.proofs.after_dash.Statement.{statement}
+use Rattle.reader.proofs.after_dash.Tie as tie
 
 enum-known-x : tie.Need-enum-known-x
 enum-known-x c = search needs

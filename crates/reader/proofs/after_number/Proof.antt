@@ -1,8 +1,8 @@
--- `numbertext::after_number` meets its contract: each arm is given which answer it has, and `afterNumber` computes there.
+-- `reader::after_number` meets its contract: each arm is given which answer it has, and `afterNumber` computes there.
 -- Assumes nothing.
 use borrow.Author.Needs.{needs}
-use Rattle.numbertext.proofs.after_number.Statement.{statement}
-use Rattle.numbertext.proofs.after_number.Tie as tie
+use Rattle.reader.proofs.after_number.Statement.{statement}
+use Rattle.reader.proofs.after_number.Tie as tie
 
 enum-known-x : tie.Need-enum-known-x
 enum-known-x c = search needs

@@ -1,4 +1,4 @@
--- `numbertext::Reader::end` meets its contract: a walk of its MIR, by hand. The struct is taken apart, and `end_at` is called on the slice and the number. All that the proof knows of `end_at` is that it meets its contract.
+-- `reader::Reader::end` meets its contract: a walk of its MIR, by hand. The struct is taken apart, and `end_at` is called on the slice and the number. All that the proof knows of `end_at` is that it meets its contract.
 -- The struct is Copy: what it owns is had twice, one copy is kept whole for the exit, and of the other what src owns goes to the callee, beside the lifetime's token, which comes back.
 -- Assumes nothing.
 use mathlib.Core.Path.{_≡_, refl}
@@ -43,21 +43,21 @@ use denote.Triple.Table.{entered, cited}
 use denote.Triple.Walked.{says, Stays, stay-none, walkOf, goes-none, Walks, ends-at, walked, walk-meets}
 use denote.Exit.{yes}
 use denote.Triple.Clauses.{ensured, lasts}
 use Rattle.numbertext.specs.Promise.{EndAt}
-use Rattle.numbertext.specs.declared.Reader.{Reader}
+use Rattle.reader.specs.declared.Reader.{Reader}
 use Rattle.numbertext.specs.declared.End.{End}
-use Rattle.numbertext.proofs.Reader as T
-use Rattle.numbertext.proofs.Reader.Laws as T′
+use Rattle.reader.proofs.Reader as T
+use Rattle.reader.proofs.Reader.Laws as T′
 use Rattle.numbertext.proofs.End as S
 use Rattle.numbertext.proofs.End.Laws as S′
 use Rattle.numbertext.proofs.end_at as step
 use Rattle.numbertext.proofs.end_at.Symbol as step-def
 use Rattle.numbertext.proofs.end_at.Symbol.{name as #numbertext·end-at}
 use Rattle.numbertext.proofs.end_at.Met as step-thm
-use Rattle.numbertext.proofs.Reader.end.Key.{name as #numbertext·Reader·end}
-use Rattle.numbertext.proofs.Reader.end as next
-use Rattle.numbertext.proofs.Reader.end.Statement as stated
-use Rattle.numbertext.proofs.Reader.end.Code as code
+use Rattle.reader.proofs.Reader.end.Key.{name as #reader·Reader·end}
+use Rattle.reader.proofs.Reader.end as next
+use Rattle.reader.proofs.Reader.end.Statement as stated
+use Rattle.reader.proofs.Reader.end.Code as code
 
 -- the struct's type, over the signature's lifetimes
 abbrev B : Lfts 1 → RattleType
@@ -161,6 +161,6 @@ pub end-spec : {M : Type 1} → stated.statement M
 unfolding code.routine tablesOf
 end-spec 𝓤 H 𝓜 𝓖 𝓡 =
     entered 𝓤 H (tripleOf 𝓤 H (𝓖 .A) next.signature (next.spec 𝓤 H (𝓖 .A) (𝓜 .mem) (𝓡 .run)))
-    (tables 𝓤 H 𝓜 𝓡 code.env .C) (tables 𝓤 H 𝓜 𝓡 code.env .Λ) #numbertext·Reader·end code.function (code.unfolded 𝓤 H 𝓜 𝓡)
+    (tables 𝓤 H 𝓜 𝓡 code.env .C) (tables 𝓤 H 𝓜 𝓡 code.env .Λ) #reader·Reader·end code.function (code.unfolded 𝓤 H 𝓜 𝓡)
     (next-meets 𝓤 H (𝓖 .A) (givenOf 𝓤 H 𝓜 𝓖) (𝓜 .mem) (𝓡 .run) (tablesOf 𝓤 H 𝓜 (tables 𝓤 H 𝓜 𝓡 code.env))
     (cited 𝓤 H (PartAt 𝓤 H (𝓖 .A) (𝓜 .mem) (𝓡 .run)) 𝓜 𝓡 code.env #numbertext·end-at step-def.routine code.calls-numbertext·end-at (step-thm.met 𝓤 H 𝓜 𝓖 𝓡)))

@@ -1,8 +1,8 @@
--- `numbertext::after_signed` meets its contract: each arm is given which answer it has, and `afterSigned` computes there.
+-- `reader::after_signed` meets its contract: each arm is given which answer it has, and `afterSigned` computes there.
 -- Assumes nothing.
 use borrow.Author.Needs.{needs}
-use Rattle.numbertext.proofs.after_signed.Statement.{statement}
-use Rattle.numbertext.proofs.after_signed.Tie as tie
+use Rattle.reader.proofs.after_signed.Statement.{statement}
+use Rattle.reader.proofs.after_signed.Tie as tie
 
 enum-known-x : tie.Need-enum-known-x
 enum-known-x c = search needs

@@ -44,9 +44,9 @@ use denote.Triple.Entry.{Vals, onEntry}
 use denote.Triple.Spec.{Meets, tripleOf}
 use denote.Triple.Walked.{says, Stays, stay-ref, walkOf, goes-ref, Walks, ends-at, walked, walk-meets}
 use denote.Triple.Clauses.{ensured, lasts}
-use Rattle.numbertext.specs.declared.Reader.{Reader}
-use Rattle.numbertext.proofs.Reader as T
-use Rattle.numbertext.proofs.Reader.Laws as T′
+use Rattle.reader.specs.declared.Reader.{Reader}
+use Rattle.reader.proofs.Reader as T
+use Rattle.reader.proofs.Reader.Laws as T′
 use mir.Syntax as syn
 use mir.Syntax.{Name, Fn, w8}
 use denote.Enum.Enum.{Few, Plainss, layout}
@@ -55,7 +55,7 @@ use denote.Exit.{yes}
 use denote.Builtin.{SliceRefOf, RefMutOf}
 use denote.Signature.{Signature}
 use denote.Triple.Clauses.{Ended, Clauses, closing}
-use Rattle.numbertext.specs.Promise.{Moves}
+use Rattle.reader.specs.Moves.{Moves}
 
 -- 'a, and the struct's type at it
 abbrev α : Lft → NamedLft

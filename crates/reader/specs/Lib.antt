@@ -1,0 +1,2 @@
+-- How a reader moves.
+pub mod Moves
