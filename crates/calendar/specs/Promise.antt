@@ -9,7 +9,7 @@ use Rattle.days.specs.Reformations.{Outcome, accepted, refused-1, refused-2, Ju
 use Rattle.calendar.specs.declared.Calendar.{Calendar}
 use Rattle.calendar.specs.declared.Calendar.the-variants as Calendar′
 use Rattle.calendar.specs.declared.Date.{Date}
-use Rattle.calendar.specs.declared.Refusal.{Refusal}
+use Rattle.refusals.specs.declared.Refusal.{Refusal}
 use Rattle.calendar.specs.declared.Reformed.{Reformed}
 use Rattle.calendar.specs.declared.Reformed.the-variants as Reformed′
 use Rattle.calendar.specs.declared.Dated.{Dated}

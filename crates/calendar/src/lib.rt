@@ -11,6 +11,7 @@ ghost use Rattle.calendar.specs.Promise.{refusal, refused, refusedReform
 ghost use Rattle.calendar.specs.Natural.{SwitchIs, ReformDateOf, fieldsOf, JulianStyleIs};
 use fields::Fields;
 use reformation::Judgement;
+pub use refusals::Refusal;
 pub use weekday::Weekday;
 use whole::counted;
 use whole::lowered;
@@ -42,13 +43,6 @@ pub struct Date {
     pub day: u32,
     pub day_ordinal: u32,
     pub jdn: i32,
-}
-
-// A refusal: its number, the place in a text that it is about, and the value that was at fault.
-pub struct Refusal {
-    pub number: u32,
-    pub place: usize,
-    pub value: i64,
 }
 
 // ---- Answers: each is what was asked for, or the refusal

@@ -28,7 +28,7 @@ use Rattle.days.specs.Runs.{Runs, top, julian-runs, gregorian-runs, firstDay, f
 use Rattle.inner.specs.Promise.{OrdinalOf}
 use Rattle.inner.specs.declared.DayOrdinal.the-variants as DayOrdinal′
 use Rattle.calendar.specs.declared.Calendar.{Calendar}
-use Rattle.calendar.specs.declared.Refusal.{Refusal}
+use Rattle.refusals.specs.declared.Refusal.{Refusal}
 use Rattle.calendar.specs.declared.Counted.the-variants as Counted′
 use Rattle.calendar.specs.declared.Told.the-variants as Told′
 use Rattle.calendar.specs.declared.Dated.{Dated}

@@ -8,7 +8,7 @@ use Rattle.days.specs.DayByDay.{Label, label, OfMonth, Rises, DayOrdinal}
 use Rattle.days.specs.Rising.{once, place-one, nth-one, days-one}
 use Rattle.days.specs.Calendars.{accepted-rises}
 use Rattle.calendar.specs.declared.Calendar.{Calendar}
-use Rattle.calendar.specs.declared.Refusal.{Refusal}
+use Rattle.refusals.specs.declared.Refusal.{Refusal}
 use Rattle.calendar.specs.declared.Counted.the-variants as Counted′
 use Rattle.calendar.specs.declared.Told.the-variants as Told′
 use Rattle.calendar.specs.declared.Dated.the-variants as Dated′

@@ -14,7 +14,7 @@ use lib.IntN.{ℤ, pos}
 use mir.Syntax.{w32}
 use mir.Val.{SFits, toZ, ofZ}
 use borrow.Author.Tests.{le-leb, lt-leb, leb-true, leb-false, lt-ltb, le-ltb, eq-eqb, ne-eqb}
-use Rattle.calendar.specs.declared.Refusal.{Refusal}
+use Rattle.refusals.specs.declared.Refusal.{Refusal}
 use Rattle.whole.specs.declared.Narrowed.{Narrowed}
 use Rattle.whole.specs.declared.Narrowed.the-variants as Narrowed′
 use Rattle.whole.specs.Machine.{back}

@@ -10,7 +10,7 @@ use lib.ListN.{length, drop, length-append}
 use lib.IntN.{ℤ, pos, negℤ}
 use lib.Dec.{leb, ltb, eqb}
 use borrow.Author.Tests.{leb-true, leb-false, ltb-true, ltb-false, ne-eqb, eqb-true, eqb-false}
-use Rattle.calendar.specs.declared.Refusal.{Refusal}
+use Rattle.refusals.specs.declared.Refusal.{Refusal}
 use Rattle.whole.specs.Edge.{signedOf}
 use Rattle.numbertext.specs.Numerals.{plus, dash, valueOf, refusal, Digits, Numeral, Signed, Stops, NoNumber, NoSigned, NoDash}
 use Rattle.numbertext.specs.Promise.{NumberFrom, SignedFrom, DashFrom, EndFrom, At, NumberAt, SignedAt, DashAt, EndAt}

@@ -6,7 +6,7 @@ use mathlib.Core.Bool.{Bool, true, false}
 use lib.ListN.{length, drop, getD}
 use lib.Dec.{ltb, leb, eqb}
 use lib.IntN.{pos}
-use Rattle.calendar.specs.declared.Refusal.{Refusal}
+use Rattle.refusals.specs.declared.Refusal.{Refusal}
 use Rattle.whole.specs.Edge.{signedOf}
 use Rattle.numbertext.specs.Numerals.{plus, dash, valueOf, refusal}
 use Rattle.numbertext.specs.declared.Run.{Run}

@@ -8,7 +8,7 @@ ghost use lib.IntN.{pos};
 ghost use Rattle.numbertext.specs.Numerals.{refusal as refusalOf};
 ghost use Rattle.numbertext.specs.Promise.{NumberAt, SignedAt, DashAt, EndAt};
 ghost use Rattle.numbertext.specs.Reading.{isDigit, digitOf, pairOf, runOf, endsOf, endedAt, signedRun, limitOf};
-use calendar::Refusal;
+use refusals::Refusal;
 use whole::Narrowed;
 
 // What a read at a place answers: what stands there and the place after it, or why it is refused.

@@ -13,7 +13,7 @@ use Rattle.days.specs.DayByDay.{Is32Bit, UnixTime}
 use Rattle.calendar.specs.declared.Calendar.{Calendar}
 use Rattle.calendar.specs.declared.Date.{Date}
 use Rattle.calendar.specs.declared.Dated.the-variants as Dated′
-use Rattle.calendar.specs.declared.Refusal.{Refusal}
+use Rattle.refusals.specs.declared.Refusal.{Refusal}
 use Rattle.calendar.specs.Calendars.{Accepted}
 use Rattle.calendar.specs.Rows.{refuses, passes}
 use Rattle.calendar.specs.Promise.{record-of, AtJdn}

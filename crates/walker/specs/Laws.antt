@@ -13,7 +13,7 @@ use Rattle.whole.specs.Biased.{unbias}
 use Rattle.days.specs.DayByDay.{Is32Bit}
 use Rattle.calendar.specs.declared.Date.{Date}
 use Rattle.calendar.specs.declared.Dated.the-variants as Dated′
-use Rattle.calendar.specs.declared.Refusal.{Refusal}
+use Rattle.refusals.specs.declared.Refusal.{Refusal}
 use Rattle.calendar.specs.Rows.{refuses, passes}
 use Rattle.calendar.specs.Promise.{record-of, Next}
 use Rattle.calendar.specs.Laws.{suc-is, pred-is, suc-far, pred-far, raised-fits}
