@@ -14,9 +14,9 @@ use Rattle.calendar.specs.declared.Dated.the-variants as Dated′
 use Rattle.calendar.specs.Calendars.{Accepted, Genuine}
 use Rattle.calendar.specs.Rows.{Unless}
 use Rattle.calendar.specs.Promise.{made-up, AtYmd, AtOrdinal}
+use Rattle.writer.specs.Writing.{WriteYmd}
+use Rattle.writer.specs.declared.Written.{Written}
 use Rattle.datetext.specs.Grammar.{OrdinalText, YmdText, Fault}
-use Rattle.datetext.specs.Writing.{WriteYmd}
-use Rattle.datetext.specs.declared.Written.{Written}
 
 -- the answer of a call without a text, in a text where the field that it is about has the place k. 7 has no field, and keeps place 0
 abbrev pub placeOf : ℕ → Refusal → Refusal

@@ -1,18 +1,12 @@
-// The text of a date: YEAR-ORDINAL or YEAR-MONTH-DAY, read and written. Each call answers for any bytes.
+// The text of a date: YEAR-ORDINAL or YEAR-MONTH-DAY, read. Each call answers for any bytes.
 
 ghost use mathlib.Core.Path.{_≡_};
-ghost use mathlib.Core.List.{[], _∷_};
-ghost use Prim.Native.Nat.{_+_, _<_, _≤_};
+ghost use Prim.Native.Nat.{_≤_};
 ghost use lib.ListN.{length};
-ghost use lib.Dec.{leb};
-ghost use Rattle.numbertext.specs.Numerals.{dash};
 ghost use Rattle.numbertext.specs.Reading.{theNumber, theDash};
 ghost use Rattle.datetext.specs.Grammar.{ReadDate};
 ghost use Rattle.datetext.specs.Reading.{isMonth, afterDay, afterMonth, afterSecond, afterDash};
 ghost use Rattle.datetext.specs.Usual.{IfAt, YearRead, MonthRead, DayRead};
-ghost use Rattle.datetext.specs.Writing.{Writes, PutNumber, PutWhole, WriteYmd};
-ghost use Rattle.datetext.specs.Decimals.{digitsOf, Width};
-ghost use Rattle.datetext.specs.Puts.{So, wholeText, wholeWidth, ymdText, Signs};
 use calendar::Refusal;
 use numbertext::Dash;
 use numbertext::End;
@@ -230,152 +224,4 @@ pub fn read_date(text: &[u8]) -> Text
         Part::Other => any_date(text),
         Part::At(year, second) => usual_on(text, whole::lowered(2_147_483_648 + year), second),
     }
-}
-
-// ---- writing
-
-pub enum Written {
-    Done(usize),
-    Refused(Refusal),
-}
-
-// How many digits a number has. They are counted four at a time, since most numbers in a text have fewer than five.
-fn width(n: u64) -> usize
-    ensures { λ r. ⌜ (Width n r) × (r ≤ 20) ⌝ }
-{
-    let mut rest = n;
-    let mut k: usize = 0;
-    while 10_000 <= rest {
-        rest = rest / 10_000;
-        k += 4;
-    }
-    if rest < 10 {
-        return k + 1;
-    }
-    if rest < 100 {
-        return k + 2;
-    }
-    if rest < 1000 {
-        return k + 3;
-    }
-    k + 4
-}
-
-// The last k digits of n from `at` on, and the place after them.
-fn put_digits(buf: &mut [u8], at: usize, n: u64, k: usize) -> usize
-    requires { ⌜ at + k ≤ length (now buf) ⌝ }
-    ensures { λ r. ⌜ So (now (buf .entry)) at (digitsOf k n) (now (buf .exit)) r ⌝ }
-{
-    let mut rest = n;
-    let mut left = k;
-    while 0 < left {
-        left -= 1;
-        buf[at + left] = (48 + rest % 10) as u8;
-        rest = rest / 10;
-    }
-    at + k
-}
-
-fn put_dash(buf: &mut [u8], at: usize) -> usize
-    requires { ⌜ at < length (now buf) ⌝ }
-    ensures { λ r. ⌜ So (now (buf .entry)) at (dash ∷ []) (now (buf .exit)) r ⌝ }
-{
-    buf[at] = 45;
-    at + 1
-}
-
-// A number with its sign: k is the width of its magnitude n.
-fn put_signed(buf: &mut [u8], at: usize, negative: bool, n: u64, k: usize) -> usize
-    requires { ⌜ at + wholeWidth negative k ≤ length (now buf) ⌝ }
-    ensures { λ r. ⌜ So (now (buf .entry)) at (wholeText negative k n) (now (buf .exit)) r ⌝ }
-{
-    if negative {
-        let first = put_dash(buf, at);
-        put_digits(buf, first, n, k)
-    } else {
-        put_digits(buf, at, n, k)
-    }
-}
-
-fn signed_width(negative: bool, k: usize) -> usize
-    requires { ⌜ k ≤ 20 ⌝ }
-    ensures { λ r. ⌜ (r ≡ wholeWidth negative k) × (r ≤ 21) ⌝ }
-{
-    if negative { k + 1 } else { k }
-}
-
-// Whether a text of `size` bytes has room from `at` on.
-pub fn has_room(len: usize, at: usize, size: usize) -> bool
-    ensures { λ r. ⌜ r ≡ leb (at + size) len ⌝ }
-{
-    if len < at {
-        return false;
-    }
-    size <= len - at
-}
-
-pub fn put_at(buf: &mut [u8], at: usize, negative: bool, n: u64) -> Written
-    ensures { λ r. ⌜ Writes (Signs negative n) (now (buf .entry)) at (now (buf .exit)) r ⌝ }
-{
-    let k = width(n);
-    let size = signed_width(negative, k);
-    if has_room(buf.len(), at, size) {
-        let end = put_signed(buf, at, negative, n, k);
-        return Written::Done(end);
-    }
-    Written::Refused(numbertext::refusal(18, 0, size as u32))
-}
-
-// A number with no padding, from `at` on: the answer tells the place after it.
-pub fn put_number(buf: &mut [u8], at: usize, n: u32) -> Written
-    ensures { λ r. ⌜ PutNumber n (now (buf .entry)) at (now (buf .exit)) r ⌝ }
-{
-    put_at(buf, at, false, n as u64)
-}
-
-pub fn put_whole(buf: &mut [u8], at: usize, x: i64) -> Written
-    ensures { λ r. ⌜ PutWhole x (now (buf .entry)) at (now (buf .exit)) r ⌝ }
-{
-    let negative = whole::is_negative(x);
-    let n = whole::magnitude(x);
-    put_at(buf, at, negative, n)
-}
-
-// The year's sign and magnitude, the month and the day, each with its width.
-fn put_ymd(
-    buf: &mut [u8],
-    negative: bool,
-    n: u64,
-    ky: usize,
-    m: u64,
-    km: usize,
-    d: u64,
-    kd: usize,
-) -> usize
-    requires { ⌜ wholeWidth negative ky + km + kd + 2 ≤ length (now buf) ⌝ }
-    ensures { λ r. ⌜ So (now (buf .entry)) 0 (ymdText negative ky n km m kd d) (now (buf .exit)) r ⌝ }
-{
-    let a = put_signed(buf, 0, negative, n, ky);
-    let b = put_dash(buf, a);
-    let c = put_digits(buf, b, m, km);
-    let e = put_dash(buf, c);
-    put_digits(buf, e, d, kd)
-}
-
-// The text of a date at the front of the buffer: the answer tells its length.
-pub fn write_ymd(buf: &mut [u8], year: i32, month: u32, day: u32) -> Written
-    ensures { λ r. ⌜ WriteYmd year month day (now (buf .entry)) (now (buf .exit)) r ⌝ }
-{
-    let x = whole::widened(year);
-    let negative = whole::is_negative(x);
-    let n = whole::magnitude(x);
-    let ky = width(n);
-    let km = width(month as u64);
-    let kd = width(day as u64);
-    let size = signed_width(negative, ky) + km + kd + 2;
-    if buf.len() < size {
-        return Written::Refused(numbertext::refusal(18, 0, size as u32));
-    }
-    let end = put_ymd(buf, negative, n, ky, month as u64, km, day as u64, kd);
-    Written::Done(end)
 }

@@ -1,12 +1,12 @@
--- `datetext::put_signed` meets its contract: a dash and the digits, or the digits alone.
+-- `writer::put_signed` meets its contract: a dash and the digits, or the digits alone.
 -- Assumes nothing.
 use mathlib.Core.Path.{ap}
 use mathlib.Core.Bool.{Bool}
 use native.Mathlib.Omega.{arith}
-use Rattle.datetext.specs.Puts.{wholeWidth, so-signed, so-plain}
+use Rattle.writer.specs.Puts.{wholeWidth, so-signed, so-plain}
 use borrow.Author.Needs.{needs}
-use Rattle.datetext.proofs.put_signed.Statement.{statement}
-use Rattle.datetext.proofs.put_signed.Tie as tie
+use Rattle.writer.proofs.put_signed.Statement.{statement}
+use Rattle.writer.proofs.put_signed.Tie as tie
 
 put-dash-requires : tie.Need-put-dash-requires
 put-dash-requires c κs = omega (arith, ap (λ (t : Bool). wholeWidth t (c .before .before .before .args .k)) (c .before .if1 .taken), c .before .before .before .pre)

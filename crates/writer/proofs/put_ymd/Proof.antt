@@ -1,11 +1,11 @@
--- `datetext::put_ymd` meets its contract: the five parts stand one after the other (`so-ymd`).
+-- `writer::put_ymd` meets its contract: the five parts stand one after the other (`so-ymd`).
 -- Assumes nothing.
 use native.Mathlib.Omega.{arith}
-use Rattle.datetext.specs.Decimals.{length-digits}
-use Rattle.datetext.specs.Puts.{length-whole, so-ymd}
+use Rattle.writer.specs.Decimals.{length-digits}
+use Rattle.writer.specs.Puts.{length-whole, so-ymd}
 use borrow.Author.Needs.{needs}
-use Rattle.datetext.proofs.put_ymd.Statement.{statement}
-use Rattle.datetext.proofs.put_ymd.Tie as tie
+use Rattle.writer.proofs.put_ymd.Statement.{statement}
+use Rattle.writer.proofs.put_ymd.Tie as tie
 
 put-signed-requires : tie.Need-put-signed-requires
 put-signed-requires c κs = search needs

@@ -16,9 +16,9 @@ use lib.IntN.{ℤ, pos, negsuc, natAbs}
 use Rattle.calendar.specs.declared.Refusal.{Refusal}
 use Rattle.whole.specs.Edge.{isNegative}
 use Rattle.numbertext.specs.Numerals.{dash, refusal}
-use Rattle.datetext.specs.Writing.{Decimal, WholeDecimal, YmdDecimal, put, Puts, Writes, PutNumber, PutWhole, WriteYmd}
-use Rattle.datetext.specs.Decimals.{digitsOf, length-digits, Width, decimal-of}
-use Rattle.datetext.specs.declared.Written.{Written}
+use Rattle.writer.specs.Writing.{Decimal, WholeDecimal, YmdDecimal, put, Puts, Writes, PutNumber, PutWhole, WriteYmd}
+use Rattle.writer.specs.Decimals.{digitsOf, length-digits, Width, decimal-of}
+use Rattle.writer.specs.declared.Written.{Written}
 
 -- ---- a buffer
 

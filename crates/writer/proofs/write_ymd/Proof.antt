@@ -1,13 +1,13 @@
--- `datetext::write_ymd` meets its contract: a buffer that is too short is left, and else the text stands at its front.
+-- `writer::write_ymd` meets its contract: a buffer that is too short is left, and else the text stands at its front.
 -- Assumes nothing.
 use mathlib.Core.Path.{ap, _∙_}
 use lib.IntN.{natAbs}
 use mir.Facts.{toZ-ofZ}
 use Rattle.whole.specs.Edge.{isNegative}
-use Rattle.datetext.specs.Puts.{ymd-left, ymd-wrote}
+use Rattle.writer.specs.Puts.{ymd-left, ymd-wrote}
 use borrow.Author.Needs.{needs, sfits-of}
-use Rattle.datetext.proofs.write_ymd.Statement.{statement}
-use Rattle.datetext.proofs.write_ymd.Tie as tie
+use Rattle.writer.proofs.write_ymd.Statement.{statement}
+use Rattle.writer.proofs.write_ymd.Tie as tie
 
 widened-requires : tie.Need-widened-requires
 widened-requires c κs = search needs

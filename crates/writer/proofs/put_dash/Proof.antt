@@ -1,11 +1,11 @@
--- `datetext::put_dash` meets its contract: a byte stored is a text of one byte put there.
+-- `writer::put_dash` meets its contract: a byte stored is a text of one byte put there.
 -- Assumes nothing.
 use mathlib.Core.Path.{refl}
 use Rattle.numbertext.specs.Numerals.{dash}
-use Rattle.datetext.specs.Puts.{put-byte}
+use Rattle.writer.specs.Puts.{put-byte}
 use borrow.Author.Needs.{needs}
-use Rattle.datetext.proofs.put_dash.Statement.{statement}
-use Rattle.datetext.proofs.put_dash.Tie as tie
+use Rattle.writer.proofs.put_dash.Statement.{statement}
+use Rattle.writer.proofs.put_dash.Tie as tie
 
 slice-write-buf : tie.Need-slice-write-buf
 slice-write-buf c = search needs
