@@ -1,11 +1,9 @@
 // Numbers and year-month-day texts, written into a buffer that is lent. Each call answers for any buffer and any place.
 
 ghost use mathlib.Core.Path.{_≡_};
-ghost use mathlib.Core.List.{[], _∷_};
-ghost use Prim.Native.Nat.{_+_, _<_, _≤_};
+ghost use Prim.Native.Nat.{_+_, _≤_};
 ghost use lib.ListN.{length};
 ghost use lib.Dec.{leb};
-ghost use Rattle.numbertext.specs.Numerals.{dash};
 ghost use Rattle.writer.specs.Writing.{Writes, PutNumber, PutWhole, WriteYmd};
 ghost use Rattle.writer.specs.Decimals.{digitsOf, Width};
 ghost use Rattle.writer.specs.Puts.{So, wholeText, wholeWidth, ymdText, Signs};
@@ -53,22 +51,14 @@ fn put_digits(buf: &mut [u8], at: usize, n: u64, k: usize) -> usize
     at + k
 }
 
-fn put_dash(buf: &mut [u8], at: usize) -> usize
-    requires { ⌜ at < length (now buf) ⌝ }
-    ensures { λ r. ⌜ So (now (buf .entry)) at (dash ∷ []) (now (buf .exit)) r ⌝ }
-{
-    buf[at] = 45;
-    at + 1
-}
-
 // A number with its sign: k is the width of its magnitude n.
 fn put_signed(buf: &mut [u8], at: usize, negative: bool, n: u64, k: usize) -> usize
     requires { ⌜ at + wholeWidth negative k ≤ length (now buf) ⌝ }
     ensures { λ r. ⌜ So (now (buf .entry)) at (wholeText negative k n) (now (buf .exit)) r ⌝ }
 {
     if negative {
-        let first = put_dash(buf, at);
-        put_digits(buf, first, n, k)
+        buf[at] = 45;
+        put_digits(buf, at + 1, n, k)
     } else {
         put_digits(buf, at, n, k)
     }
@@ -118,7 +108,7 @@ pub fn put_whole(buf: &mut [u8], at: usize, x: i64) -> Written
     put_at(buf, at, negative, n)
 }
 
-// The year's sign and magnitude, the month and the day, each with its width.
+// The year's sign and magnitude, the month and the day, each with its width. The `-` before a month and a day is put as that of a negative number is.
 fn put_ymd(
     buf: &mut [u8],
     negative: bool,
@@ -133,10 +123,8 @@ fn put_ymd(
     ensures { λ r. ⌜ So (now (buf .entry)) 0 (ymdText negative ky n km m kd d) (now (buf .exit)) r ⌝ }
 {
     let a = put_signed(buf, 0, negative, n, ky);
-    let b = put_dash(buf, a);
-    let c = put_digits(buf, b, m, km);
-    let e = put_dash(buf, c);
-    put_digits(buf, e, d, kd)
+    let b = put_signed(buf, a, true, m, km);
+    put_signed(buf, b, true, d, kd)
 }
 
 // The text of a date at the front of the buffer: the answer tells its length.
