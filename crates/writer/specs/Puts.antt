@@ -251,8 +251,6 @@ module _ (y : ℤ) (m d : ℕ) {neg : Bool} {n ky km kd w : ℕ} (e : neg ≡ is
   pub ymd-left : length b < w + km + kd + 2 → {f : Refusal} → f ≡ refusal 18 0 (pos (w + km + kd + 2)) → WriteYmd y m d b b (Written.Refused f)
   ymd-left h g = left-alone (ymdText neg ky n km m kd d) text-is size-is (omega (arith, size-is)) g
 
-  pub ymd-room : w + km + kd + 2 ≤ length b → wholeWidth neg ky + km + kd + 2 ≤ length b
-  ymd-room h = subst (λ (i : ℕ). i + km + kd + 2 ≤ length b) s h
-
-  pub ymd-wrote : w + km + kd + 2 ≤ length b → {b′ : List ℕ} {i : ℕ} → So b 0 (ymdText neg ky n km m kd d) b′ i → WriteYmd y m d b b′ (Written.Done i)
-  ymd-wrote h r = wrote text-is (omega (arith, size-is)) r
+  pub ymd-wrote : w + km + kd + 2 ≤ length b → {b₁ b₂ b₃ : List ℕ} {i₁ i₂ i₃ : ℕ}
+      → So b 0 (wholeText neg ky n) b₁ i₁ → So b₁ i₁ (wholeText true km m) b₂ i₂ → So b₂ i₂ (wholeText true kd d) b₃ i₃ → WriteYmd y m d b b₃ (Written.Done i₃)
+  ymd-wrote h s₁ s₂ s₃ = wrote text-is (omega (arith, size-is)) (so-ymd neg ky n km m kd d (subst (λ (i : ℕ). i + km + kd + 2 ≤ length b) s h) s₁ s₂ s₃)

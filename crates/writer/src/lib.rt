@@ -6,7 +6,7 @@ ghost use lib.ListN.{length};
 ghost use lib.Dec.{leb};
 ghost use Rattle.writer.specs.Writing.{Writes, PutNumber, PutWhole, WriteYmd};
 ghost use Rattle.writer.specs.Decimals.{digitsOf, Width};
-ghost use Rattle.writer.specs.Puts.{So, wholeText, wholeWidth, ymdText, Signs};
+ghost use Rattle.writer.specs.Puts.{So, wholeText, wholeWidth, Signs};
 use calendar::Refusal;
 
 pub enum Written {
@@ -108,26 +108,7 @@ pub fn put_whole(buf: &mut [u8], at: usize, x: i64) -> Written
     put_at(buf, at, negative, n)
 }
 
-// The year's sign and magnitude, the month and the day, each with its width. The `-` before a month and a day is put as that of a negative number is.
-fn put_ymd(
-    buf: &mut [u8],
-    negative: bool,
-    n: u64,
-    ky: usize,
-    m: u64,
-    km: usize,
-    d: u64,
-    kd: usize,
-) -> usize
-    requires { ⌜ wholeWidth negative ky + km + kd + 2 ≤ length (now buf) ⌝ }
-    ensures { λ r. ⌜ So (now (buf .entry)) 0 (ymdText negative ky n km m kd d) (now (buf .exit)) r ⌝ }
-{
-    let a = put_signed(buf, 0, negative, n, ky);
-    let b = put_signed(buf, a, true, m, km);
-    put_signed(buf, b, true, d, kd)
-}
-
-// The text of a date at the front of the buffer: the answer tells its length.
+// The text of a date at the front of the buffer: the answer tells its length. The `-` before a month and a day is put as that of a negative number is.
 pub fn write_ymd(buf: &mut [u8], year: i32, month: u32, day: u32) -> Written
     ensures { λ r. ⌜ WriteYmd year month day (now (buf .entry)) (now (buf .exit)) r ⌝ }
 {
@@ -135,12 +116,16 @@ pub fn write_ymd(buf: &mut [u8], year: i32, month: u32, day: u32) -> Written
     let negative = whole::is_negative(x);
     let n = whole::magnitude(x);
     let ky = width(n);
-    let km = width(month as u64);
-    let kd = width(day as u64);
+    let m = month as u64;
+    let km = width(m);
+    let d = day as u64;
+    let kd = width(d);
     let size = signed_width(negative, ky) + km + kd + 2;
     if buf.len() < size {
         return Written::Refused(numbertext::refusal(18, 0, size as u32));
     }
-    let end = put_ymd(buf, negative, n, ky, month as u64, km, day as u64, kd);
+    let second = put_signed(buf, 0, negative, n, ky);
+    let third = put_signed(buf, second, true, m, km);
+    let end = put_signed(buf, third, true, d, kd);
     Written::Done(end)
 }

@@ -1,10 +1,12 @@
--- `writer::write_ymd` meets its contract: a buffer that is too short is left, and else the text stands at its front.
+-- `writer::write_ymd` meets its contract: a buffer that is too short is left, and else the three numbers stand one after the other at its front.
 -- Assumes nothing.
 use mathlib.Core.Path.{ap, _∙_}
+use mathlib.Core.Bool.{true}
+use native.Mathlib.Omega.{arith}
 use lib.IntN.{natAbs}
 use mir.Facts.{toZ-ofZ}
 use Rattle.whole.specs.Edge.{isNegative}
-use Rattle.writer.specs.Puts.{ymd-left, ymd-wrote}
+use Rattle.writer.specs.Puts.{length-whole, ymd-left, ymd-wrote}
 use borrow.Author.Needs.{needs, sfits-of}
 use Rattle.writer.proofs.write_ymd.Statement.{statement}
 use Rattle.writer.proofs.write_ymd.Tie as tie
@@ -52,18 +54,46 @@ returns c =
     ymd-left (a .year) (a .month) (a .day) (c .before .before .before .before .before .before .before .is-negative .ensures ∙ ap isNegative r) (c .before .before .before .before .before .before .magnitude .ensures ∙ ap natAbs r)
     (c .before .before .before .before .before .width .ensures .0) (c .before .before .before .before .width2 .ensures .0) (c .before .before .before .width3 .ensures .0) (c .before .before .signed-width .ensures .0) _ (c .before .if1 .taken) (c .refusal .ensures)
 
-put-ymd-requires : tie.Need-put-ymd-requires
-put-ymd-requires c κs = search needs
+put-signed-requires : tie.Need-put-signed-requires
+put-signed-requires c κs = search needs
+
+put-signed-requires-2 : tie.Need-put-signed-requires-2
+put-signed-requires-2 c κs =
+    let y = c .before .before .before .put-signed in
+    omega (
+      arith,
+      c .before .before .before .before .before .if1 .left,
+      c .before .before .before .before .before .before .signed-width .ensures .0,
+      length-whole (c .before .before .before .before .before .before .before .before .before .before .before .is-negative .result) (c .before .before .before .before .before .before .before .before .before .width .result) (c .before .before .before .before .before .before .before .before .before .before .magnitude .result),
+      y .ensures .place,
+      y .kept .0,
+    )
+
+put-signed-requires-3 : tie.Need-put-signed-requires-3
+put-signed-requires-3 c κs =
+    let y = c .before .before .before .before .before .before .before .put-signed in
+    let m = c .before .before .before .put-signed2 in
+    omega (
+      arith,
+      c .before .before .before .before .before .before .before .before .before .if1 .left,
+      c .before .before .before .before .before .before .before .before .before .before .signed-width .ensures .0,
+      length-whole (c .before .before .before .before .before .before .before .before .before .before .before .before .before .before .before .is-negative .result) (c .before .before .before .before .before .before .before .before .before .before .before .before .before .width .result) (c .before .before .before .before .before .before .before .before .before .before .before .before .before .before .magnitude .result),
+      y .ensures .place,
+      y .kept .0,
+      length-whole true (c .before .before .before .before .before .before .before .before .before .before .before .before .width2 .result) (c .before .before .before .before .before .before .before .before .before .before .before .before .before .before .before .before .before .before .args .month),
+      m .ensures .place,
+      m .kept .0,
+    )
 
 same-length : tie.Need-same-length
 same-length c = search needs
 
 returns-2 : tie.Need-returns-2
 returns-2 c =
-    let a = c .before .before .before .before .before .before .before .before .before .before .before .before .before .args in
-    let r = toZ-ofZ (sfits-of (c .before .before .before .before .before .before .before .before .before .before .before .widened .ok)) ∙ c .before .before .before .before .before .before .before .before .before .before .before .widened .ensures ∙ toZ-ofZ (c .before .before .before .before .before .before .before .before .before .before .before .before .before .fits .year) in
-    ymd-wrote (a .year) (a .month) (a .day) (c .before .before .before .before .before .before .before .before .before .before .is-negative .ensures ∙ ap isNegative r) (c .before .before .before .before .before .before .before .before .before .magnitude .ensures ∙ ap natAbs r)
-    (c .before .before .before .before .before .before .before .before .width .ensures .0) (c .before .before .before .before .before .before .before .width2 .ensures .0) (c .before .before .before .before .before .before .width3 .ensures .0) (c .before .before .before .before .before .signed-width .ensures .0) _ (c .before .before .before .before .if1 .left) (c .before .before .put-ymd .ensures)
+    let a = c .before .before .before .before .before .before .before .before .before .before .before .before .before .before .before .before .before .before .before .before .before .args in
+    let r = toZ-ofZ (sfits-of (c .before .before .before .before .before .before .before .before .before .before .before .before .before .before .before .before .before .before .before .widened .ok)) ∙ c .before .before .before .before .before .before .before .before .before .before .before .before .before .before .before .before .before .before .before .widened .ensures ∙ toZ-ofZ (c .before .before .before .before .before .before .before .before .before .before .before .before .before .before .before .before .before .before .before .before .before .fits .year) in
+    ymd-wrote (a .year) (a .month) (a .day) (c .before .before .before .before .before .before .before .before .before .before .before .before .before .before .before .before .before .before .is-negative .ensures ∙ ap isNegative r) (c .before .before .before .before .before .before .before .before .before .before .before .before .before .before .before .before .before .magnitude .ensures ∙ ap natAbs r)
+    (c .before .before .before .before .before .before .before .before .before .before .before .before .before .before .before .before .width .ensures .0) (c .before .before .before .before .before .before .before .before .before .before .before .before .before .before .before .width2 .ensures .0) (c .before .before .before .before .before .before .before .before .before .before .before .before .before .before .width3 .ensures .0) (c .before .before .before .before .before .before .before .before .before .before .before .before .before .signed-width .ensures .0) _ (c .before .before .before .before .before .before .before .before .before .before .before .before .if1 .left) (c .before .before .before .before .before .before .before .before .before .before .put-signed .ensures) (c .before .before .before .before .before .before .put-signed2 .ensures) (c .before .before .put-signed3 .ensures)
 
 pub write-ymd-spec : {M : Type 1} → statement M
 write-ymd-spec =
@@ -82,6 +112,8 @@ write-ymd-spec =
     cast-refusal
     refusal-requires
     returns
-    put-ymd-requires
+    put-signed-requires
+    put-signed-requires-2
+    put-signed-requires-3
     same-length
     returns-2)
