@@ -1,12 +1,12 @@
 // The text of a date: YEAR-ORDINAL or YEAR-MONTH-DAY, read. Each call answers for any bytes.
 
 ghost use mathlib.Core.Path.{_≡_};
-ghost use Prim.Native.Nat.{_≤_};
+ghost use Prim.Native.Nat.{_≤_, _<_};
 ghost use lib.ListN.{length};
 ghost use Rattle.numbertext.specs.Reading.{theNumber, theDash};
 ghost use Rattle.datetext.specs.Grammar.{ReadDate};
 ghost use Rattle.datetext.specs.Reading.{isMonth, afterDay, afterMonth, afterSecond, afterDash};
-ghost use Rattle.datetext.specs.Usual.{IfAt, YearRead, MonthRead, DayRead};
+ghost use Rattle.datetext.specs.Usual.{IfAt, Hundreds, YearRead, MonthRead, DayRead};
 use calendar::Refusal;
 use numbertext::Dash;
 use numbertext::End;
@@ -118,6 +118,21 @@ enum Part {
     Other,
 }
 
+// The last two digits of the year are to stand at `at`, where a `-` is known to come after them.
+fn year_at(text: &[u8], hundreds: u32, at: usize) -> Part
+    requires { ⌜ Hundreds (now text) hundreds at ⌝ }
+    ensures { λ r. ⌜ IfAt (YearRead (now (text .entry))) r ⌝ }
+{
+    if 99 < hundreds {
+        return Part::Other;
+    }
+    let rest = numbertext::pair_at(text, at);
+    if 99 < rest {
+        return Part::Other;
+    }
+    Part::At(hundreds * 100 + rest, at + 3)
+}
+
 fn usual_year(text: &[u8]) -> Part
     ensures { λ r. ⌜ IfAt (YearRead (now (text .entry))) r ⌝ }
 {
@@ -125,26 +140,14 @@ fn usual_year(text: &[u8]) -> Part
         return Part::Other;
     }
     if text[4] == 45 {
-        let high = numbertext::pair_at(text, 0);
-        if 99 < high {
-            return Part::Other;
-        }
-        let low = numbertext::pair_at(text, 2);
-        if 99 < low {
-            return Part::Other;
-        }
-        return Part::At(high * 100 + low, 5);
+        let hundreds = numbertext::pair_at(text, 0);
+        return year_at(text, hundreds, 2);
     }
     if text[3] == 45 {
-        let high = numbertext::digit_at(text, 0);
-        if 9 < high {
-            return Part::Other;
+        let hundreds = numbertext::digit_at(text, 0);
+        if hundreds < 10 {
+            return year_at(text, hundreds, 1);
         }
-        let low = numbertext::pair_at(text, 1);
-        if 99 < low {
-            return Part::Other;
-        }
-        return Part::At(high * 100 + low, 4);
     }
     Part::Other
 }
@@ -176,26 +179,22 @@ fn usual_month(text: &[u8], at: usize) -> Part
     Part::Other
 }
 
-// The day is to stand at `at` and to end the text.
-fn usual_day(text: &[u8], at: usize) -> Part
+// The day is to stand at `at` and to end the text: 100 says that it does not.
+fn usual_day(text: &[u8], at: usize) -> u32
     requires { ⌜ at ≤ length (now text) ⌝ }
-    ensures { λ r. ⌜ IfAt (DayRead (now (text .entry)) at) r ⌝ }
+    ensures { λ r. ⌜ (r < 100 → DayRead (now (text .entry)) at r) ⌝ }
 {
     let left = text.len() - at;
     if left == 2 {
-        let day = numbertext::pair_at(text, at);
-        if day < 100 {
-            return Part::At(day, at + 2);
-        }
-        return Part::Other;
+        return numbertext::pair_at(text, at);
     }
     if left == 1 {
         let day = numbertext::digit_at(text, at);
         if day < 10 {
-            return Part::At(day, at + 1);
+            return day;
         }
     }
-    Part::Other
+    100
 }
 
 // A text that is no usual one from some part on is read part by part from there.
@@ -205,15 +204,19 @@ fn usual_on(text: &[u8], year: i32, at: usize) -> Text
 {
     match usual_month(text, at) {
         Part::Other => second_on(text, year, at),
-        Part::At(month, third) => match usual_day(text, third) {
-            Part::Other => day_on(text, year, month, third),
-            Part::At(day, _) => Text::Ymd {
-                year,
-                month,
-                day,
-                place: third,
-            },
-        },
+        Part::At(month, third) => {
+            let day = usual_day(text, third);
+            if day < 100 {
+                Text::Ymd {
+                    year,
+                    month,
+                    day,
+                    place: third,
+                }
+            } else {
+                day_on(text, year, month, third)
+            }
+        }
     }
 }
 
