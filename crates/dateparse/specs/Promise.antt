@@ -8,15 +8,15 @@ use lib.Dec.{eqb}
 use lib.IntN.{ℤ}
 use Rattle.calendar.specs.declared.Calendar.{Calendar}
 use Rattle.calendar.specs.declared.Date.{Date}
-use Rattle.calendar.specs.declared.Refusal.{Refusal}
+use Rattle.refusals.specs.declared.Refusal.{Refusal}
 use Rattle.calendar.specs.declared.Dated.{Dated}
 use Rattle.calendar.specs.declared.Dated.the-variants as Dated′
 use Rattle.calendar.specs.Calendars.{Accepted, Genuine}
 use Rattle.calendar.specs.Rows.{Unless}
 use Rattle.calendar.specs.Promise.{made-up, AtYmd, AtOrdinal}
+use Rattle.writer.specs.Writing.{WriteYmd}
+use Rattle.writer.specs.declared.Written.{Written}
 use Rattle.datetext.specs.Grammar.{OrdinalText, YmdText, Fault}
-use Rattle.datetext.specs.Writing.{WriteYmd}
-use Rattle.datetext.specs.declared.Written.{Written}
 
 -- the answer of a call without a text, in a text where the field that it is about has the place k. 7 has no field, and keeps place 0
 abbrev pub placeOf : ℕ → Refusal → Refusal

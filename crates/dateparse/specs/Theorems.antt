@@ -17,7 +17,7 @@ use Rattle.days.specs.Calendars.{accepted-rises, labels-proper}
 use Rattle.days.specs.Years.{year-from, year-to, year-fits, year-short, day-to}
 use Rattle.calendar.specs.declared.Calendar.{Calendar}
 use Rattle.calendar.specs.declared.Date.{Date}
-use Rattle.calendar.specs.declared.Refusal.{Refusal}
+use Rattle.refusals.specs.declared.Refusal.{Refusal}
 use Rattle.calendar.specs.declared.Dated.{Dated}
 use Rattle.calendar.specs.declared.Dated.the-variants as Dated′
 use Rattle.calendar.specs.Calendars.{meant, labels, Accepted, IsRecord, Genuine}
@@ -25,10 +25,11 @@ use Rattle.calendar.specs.Rows.{One, refuses, passes, unless-one}
 use Rattle.calendar.specs.Promise.{AtYmd, AtOrdinal}
 use Rattle.calendar.specs.One.{record-one, at-ymd-one, at-ordinal-one}
 use Rattle.calendar.specs.Theorems.{IsRecordOf, ymd-accepts, ymd-only, ordinal-accepts, ordinal-only}
+use Rattle.writer.specs.Writing.{YmdDecimal, WriteYmd}
+use Rattle.writer.specs.Theorems as W
+use Rattle.writer.specs.declared.Written.{Written}
 use Rattle.datetext.specs.Grammar.{Month, OrdinalText, YmdText, Fault}
-use Rattle.datetext.specs.Writing.{YmdDecimal, WriteYmd}
 use Rattle.datetext.specs.Theorems as T
-use Rattle.datetext.specs.declared.Written.{Written}
 use Rattle.dateparse.specs.Promise.{placedAt, placeOf, ByText, by-fault, by-ordinal, by-ymd, ParseDate, WriteDate}
 
 -- ---- Each promise allows one result
@@ -52,7 +53,7 @@ pub parse-date-one : (c : Calendar) (s : List ℕ) → One (ParseDate c s)
 parse-date-one c s = unless-one (λ a. by-text-one c s)
 
 pub write-date-one : (d : Date) (b : List ℕ) → One (WriteDate d b)
-write-date-one d b = unless-one (λ g p q x y. let (e, f) = T.write-ymd-one x y in pair-is p q e f)
+write-date-one d b = unless-one (λ g p q x y. let (e, f) = W.write-ymd-one x y in pair-is p q e f)
   where
     pair-is : (p q : List ℕ × Written) → p .0 ≡ q .0 → p .1 ≡ q .1 → p ≡ q
     pair-is p q e f = ap (λ (l : List ℕ). (l, p .1)) e ∙ ap (λ (w : Written). (q .0, w)) f
@@ -134,8 +135,8 @@ module _ (d : Date) (g : Genuine d) (f : Is32Bit (d .jdn)) where
 
   -- so for what write_date has put at the front of a buffer
   pub written-reads-back : {b b′ : List ℕ} {i : ℕ} {a : Dated} → WriteDate d b (b′, Written.Done i) → ParseDate (d .calendar) (take i b′) a → a ≡ Dated′.Date d
-  written-reads-back (passes x w) q = reads-back (T.written-front w) q
+  written-reads-back (passes x w) q = reads-back (W.written-front w) q
 
   -- and it has at most 14 bytes
   pub fourteen : {t : List ℕ} → YmdDecimal t (d .year) (d .month) (d .day) → length t ≤ 14
-  fourteen w = T.fourteen w (year-short from to) (date-month d g .last) day-most
+  fourteen w = W.fourteen w (year-short from to) (date-month d g .last) day-most

@@ -9,7 +9,7 @@ use calendar::Dated;
 use calendar::Refusal;
 use calendar::Switch;
 use datetext::Text;
-use datetext::Written;
+use writer::Written;
 
 pub fn parse_date(calendar: Calendar, text: &[u8]) -> Dated
     ensures { λ d. ⌜ ParseDate calendar (now (text .entry)) d ⌝ }
@@ -57,7 +57,7 @@ pub fn write_date(date: Date, buf: &mut [u8]) -> Written
     ensures { λ r. ⌜ WriteDate date (now (buf .entry)) (now (buf .exit), r) ⌝ }
 {
     if date.is_genuine() {
-        return datetext::write_ymd(buf, date.year, date.month, date.day);
+        return writer::write_ymd(buf, date.year, date.month, date.day);
     }
     Written::Refused(calendar::refusal_of(16, 0))
 }

@@ -6,7 +6,7 @@ use Prim.Native.Nat.{ℕ, _+_, _≤_}
 use mathlib.Core.List.{List, _∷_, _++_}
 use lib.ListN.{length}
 use lib.IntN.{ℤ, pos}
-use Rattle.calendar.specs.declared.Refusal.{Refusal}
+use Rattle.refusals.specs.declared.Refusal.{Refusal}
 use Rattle.numbertext.specs.Numerals.{dash, refusal, Unsigned, Signed, Stops, NoNumber, NoSigned, NoDash}
 use Rattle.datetext.specs.declared.Text.{Text}
 

@@ -12,7 +12,7 @@ use lib.Seq.{drop-drop, drop-append-seam}
 use lib.IntN.{ℤ, pos}
 use lib.Dec.{ltb, leb}
 use borrow.Author.Tests.{lt-ltb, le-ltb, le-leb, leb-true}
-use Rattle.calendar.specs.declared.Refusal.{Refusal}
+use Rattle.refusals.specs.declared.Refusal.{Refusal}
 use Rattle.numbertext.specs.Numerals.{dash, refusal, Unsigned, Signed, Stops, NoNumber, NoDash}
 use Rattle.numbertext.specs.Promise.{NumberFrom, SignedFrom, DashFrom, EndFrom}
 use Rattle.numbertext.specs.Reading.{pick, placed, readNumber, theNumber, readSigned, theSigned, readDash, theDash, readEnd, theEnd}

@@ -40,7 +40,7 @@ pub record MonthRead (s : List ℕ) (at n next : ℕ) : Type 0 where
   pub within : next ≤ length s
   pub read : (y : ℤ) → afterSecond s y at (theNumber s at) ≡ afterDay s y n next (theNumber s next)
 
-pub record DayRead (s : List ℕ) (at n next : ℕ) : Type 0 where
+pub record DayRead (s : List ℕ) (at n : ℕ) : Type 0 where
   pub read : (y : ℤ) (m : ℕ) → afterDay s y m at (theNumber s at) ≡ Text.Ymd y m n at
 
 -- ---- a year or a month that ends at k, where the dash stands
@@ -59,17 +59,30 @@ module _ (s : List ℕ) (k : ℕ) (h : k < length s) (d : getD s k 0 ≡ dash) w
 
 -- ---- years
 
-pub four-digits : (s : List ℕ) {high low : ℕ} → 4 < length s → getD s 4 0 ≡ dash → PairIs s 0 high → PairIs s 2 low → YearRead s (high * 100 + low) 5
+four-digits : (s : List ℕ) {high low : ℕ} → 4 < length s → getD s 4 0 ≡ dash → PairIs s 0 high → PairIs s 2 low → YearRead s (high * 100 + low) 5
 four-digits s h d a b =
     year-by s 4 h d (omega (arith, a .is, b .is, a .tens .high, a .ones .high, b .tens .high, b .ones .high))
     (signed-of s _ (omega arith) (a .tens) (pair-front a (pair-front b (dash-front s 4 h d))) (omega arith) (omega (arith, a .is, b .is)) refl
     (omega (arith, a .is, b .is, a .tens .high, a .ones .high, b .tens .high, b .ones .high)))
 
-pub three-digits : (s : List ℕ) {high low : ℕ} → 3 < length s → getD s 3 0 ≡ dash → DigitIs s 0 high → PairIs s 1 low → YearRead s (high * 100 + low) 4
+three-digits : (s : List ℕ) {high low : ℕ} → 3 < length s → getD s 3 0 ≡ dash → DigitIs s 0 high → PairIs s 1 low → YearRead s (high * 100 + low) 4
 three-digits s h d a b =
     year-by s 3 h d (omega (arith, a .is, b .is, a .digit .high, b .tens .high, b .ones .high))
     (signed-of s _ (omega arith) (a .digit) (digit-front a (pair-front b (dash-front s 3 h d))) (omega arith) (omega (arith, a .is, b .is)) refl
     (omega (arith, a .is, b .is, a .digit .high, b .tens .high, b .ones .high)))
+
+-- the digits before `at` write n, the hundreds of a year whose dash stands two places on; two digits need not be some
+pub data Hundreds (s : List ℕ) : ℕ → ℕ → Type 0 where
+  two : {n : ℕ} → 4 < length s → getD s 4 0 ≡ dash → n ≡ pairOf s 0 → Hundreds s n 2
+  one : {n : ℕ} → 3 < length s → getD s 3 0 ≡ dash → DigitIs s 0 n → Hundreds s n 1
+
+pub hundreds-place : {s : List ℕ} {n at : ℕ} → Hundreds s n at → at ≤ 2
+hundreds-place (Hundreds.two h d p) = omega arith
+hundreds-place (Hundreds.one h d a) = omega arith
+
+pub year-is : {s : List ℕ} {n at low : ℕ} → Hundreds s n at → n < 100 → PairIs s at low → YearRead s (n * 100 + low) (at + 3)
+year-is {s} (Hundreds.two h d p) k b = four-digits s h d (pair-seen s 0 p k) b
+year-is {s} (Hundreds.one h d a) k b = three-digits s h d a b
 
 -- a year that is raised and lowered again
 pub lowered-year : (n : ℕ) → unbias (2 ^ 31) (2147483648 + n) ≡ pos n
@@ -94,16 +107,16 @@ module _ (s : List ℕ) {at m : ℕ} (i : isMonth m ≡ true) where
 
 -- ---- days, which end the text
 
-day-by : (s : List ℕ) {at n next : ℕ} → next ≡ length s → theNumber s at ≡ Number.Value n next → DayRead s at n next
+day-by : (s : List ℕ) {at n next : ℕ} → next ≡ length s → theNumber s at ≡ Number.Value n next → DayRead s at n
 day-by s {at} {n} {next} e f = record { read = λ y m. ap (afterDay s y m at) f ∙ ap (toYmd y m n at) (end-reached s next (omega arith) (omega arith)) }
 
 module _ (s : List ℕ) {at n : ℕ} where
-  pub two-digit-day : at + 2 ≡ length s → PairIs s at n → DayRead s at n (at + 2)
+  pub two-digit-day : at + 2 ≡ length s → PairIs s at n → DayRead s at n
   two-digit-day h a =
       day-by s h
       (number-of s at _ (pair-front a (front-end s (at + 2) (omega arith))) (omega arith) (omega (arith, a .is)) (omega arith) (omega (arith, a .is, a .tens .high, a .ones .high)))
 
-  pub one-digit-day : at + 1 ≡ length s → DigitIs s at n → DayRead s at n (at + 1)
+  pub one-digit-day : at + 1 ≡ length s → DigitIs s at n → DayRead s at n
   one-digit-day h a =
       day-by s h
       (number-of s at _ (digit-front a (front-end s (at + 1) (omega arith))) (omega arith) (omega (arith, a .is)) (omega arith) (omega (arith, a .is, a .digit .high)))

@@ -1,19 +1,13 @@
-// The text of a date: YEAR-ORDINAL or YEAR-MONTH-DAY, read and written. Each call answers for any bytes.
+// The text of a date: YEAR-ORDINAL or YEAR-MONTH-DAY, read. Each call answers for any bytes.
 
 ghost use mathlib.Core.Path.{_≡_};
-ghost use mathlib.Core.List.{[], _∷_};
-ghost use Prim.Native.Nat.{_+_, _<_, _≤_};
+ghost use Prim.Native.Nat.{_≤_, _<_};
 ghost use lib.ListN.{length};
-ghost use lib.Dec.{leb};
-ghost use Rattle.numbertext.specs.Numerals.{dash};
 ghost use Rattle.numbertext.specs.Reading.{theNumber, theDash};
 ghost use Rattle.datetext.specs.Grammar.{ReadDate};
 ghost use Rattle.datetext.specs.Reading.{isMonth, afterDay, afterMonth, afterSecond, afterDash};
-ghost use Rattle.datetext.specs.Usual.{IfAt, YearRead, MonthRead, DayRead};
-ghost use Rattle.datetext.specs.Writing.{Writes, PutNumber, PutWhole, WriteYmd};
-ghost use Rattle.datetext.specs.Decimals.{digitsOf, Width};
-ghost use Rattle.datetext.specs.Puts.{So, wholeText, wholeWidth, ymdText, Signs};
-use calendar::Refusal;
+ghost use Rattle.datetext.specs.Usual.{IfAt, Hundreds, YearRead, MonthRead, DayRead};
+use refusals::Refusal;
 use numbertext::Dash;
 use numbertext::End;
 use numbertext::Number;
@@ -124,6 +118,21 @@ enum Part {
     Other,
 }
 
+// The last two digits of the year are to stand at `at`, where a `-` is known to come after them.
+fn year_at(text: &[u8], hundreds: u32, at: usize) -> Part
+    requires { ⌜ Hundreds (now text) hundreds at ⌝ }
+    ensures { λ r. ⌜ IfAt (YearRead (now (text .entry))) r ⌝ }
+{
+    if 99 < hundreds {
+        return Part::Other;
+    }
+    let rest = numbertext::pair_at(text, at);
+    if 99 < rest {
+        return Part::Other;
+    }
+    Part::At(hundreds * 100 + rest, at + 3)
+}
+
 fn usual_year(text: &[u8]) -> Part
     ensures { λ r. ⌜ IfAt (YearRead (now (text .entry))) r ⌝ }
 {
@@ -131,26 +140,14 @@ fn usual_year(text: &[u8]) -> Part
         return Part::Other;
     }
     if text[4] == 45 {
-        let high = numbertext::pair_at(text, 0);
-        if 99 < high {
-            return Part::Other;
-        }
-        let low = numbertext::pair_at(text, 2);
-        if 99 < low {
-            return Part::Other;
-        }
-        return Part::At(high * 100 + low, 5);
+        let hundreds = numbertext::pair_at(text, 0);
+        return year_at(text, hundreds, 2);
     }
     if text[3] == 45 {
-        let high = numbertext::digit_at(text, 0);
-        if 9 < high {
-            return Part::Other;
+        let hundreds = numbertext::digit_at(text, 0);
+        if hundreds < 10 {
+            return year_at(text, hundreds, 1);
         }
-        let low = numbertext::pair_at(text, 1);
-        if 99 < low {
-            return Part::Other;
-        }
-        return Part::At(high * 100 + low, 4);
     }
     Part::Other
 }
@@ -182,26 +179,22 @@ fn usual_month(text: &[u8], at: usize) -> Part
     Part::Other
 }
 
-// The day is to stand at `at` and to end the text.
-fn usual_day(text: &[u8], at: usize) -> Part
+// The day is to stand at `at` and to end the text: 100 says that it does not.
+fn usual_day(text: &[u8], at: usize) -> u32
     requires { ⌜ at ≤ length (now text) ⌝ }
-    ensures { λ r. ⌜ IfAt (DayRead (now (text .entry)) at) r ⌝ }
+    ensures { λ r. ⌜ (r < 100 → DayRead (now (text .entry)) at r) ⌝ }
 {
     let left = text.len() - at;
     if left == 2 {
-        let day = numbertext::pair_at(text, at);
-        if day < 100 {
-            return Part::At(day, at + 2);
-        }
-        return Part::Other;
+        return numbertext::pair_at(text, at);
     }
     if left == 1 {
         let day = numbertext::digit_at(text, at);
         if day < 10 {
-            return Part::At(day, at + 1);
+            return day;
         }
     }
-    Part::Other
+    100
 }
 
 // A text that is no usual one from some part on is read part by part from there.
@@ -211,15 +204,19 @@ fn usual_on(text: &[u8], year: i32, at: usize) -> Text
 {
     match usual_month(text, at) {
         Part::Other => second_on(text, year, at),
-        Part::At(month, third) => match usual_day(text, third) {
-            Part::Other => day_on(text, year, month, third),
-            Part::At(day, _) => Text::Ymd {
-                year,
-                month,
-                day,
-                place: third,
-            },
-        },
+        Part::At(month, third) => {
+            let day = usual_day(text, third);
+            if day < 100 {
+                Text::Ymd {
+                    year,
+                    month,
+                    day,
+                    place: third,
+                }
+            } else {
+                day_on(text, year, month, third)
+            }
+        }
     }
 }
 
@@ -230,152 +227,4 @@ pub fn read_date(text: &[u8]) -> Text
         Part::Other => any_date(text),
         Part::At(year, second) => usual_on(text, whole::lowered(2_147_483_648 + year), second),
     }
-}
-
-// ---- writing
-
-pub enum Written {
-    Done(usize),
-    Refused(Refusal),
-}
-
-// How many digits a number has. They are counted four at a time, since most numbers in a text have fewer than five.
-fn width(n: u64) -> usize
-    ensures { λ r. ⌜ (Width n r) × (r ≤ 20) ⌝ }
-{
-    let mut rest = n;
-    let mut k: usize = 0;
-    while 10_000 <= rest {
-        rest = rest / 10_000;
-        k += 4;
-    }
-    if rest < 10 {
-        return k + 1;
-    }
-    if rest < 100 {
-        return k + 2;
-    }
-    if rest < 1000 {
-        return k + 3;
-    }
-    k + 4
-}
-
-// The last k digits of n from `at` on, and the place after them.
-fn put_digits(buf: &mut [u8], at: usize, n: u64, k: usize) -> usize
-    requires { ⌜ at + k ≤ length (now buf) ⌝ }
-    ensures { λ r. ⌜ So (now (buf .entry)) at (digitsOf k n) (now (buf .exit)) r ⌝ }
-{
-    let mut rest = n;
-    let mut left = k;
-    while 0 < left {
-        left -= 1;
-        buf[at + left] = (48 + rest % 10) as u8;
-        rest = rest / 10;
-    }
-    at + k
-}
-
-fn put_dash(buf: &mut [u8], at: usize) -> usize
-    requires { ⌜ at < length (now buf) ⌝ }
-    ensures { λ r. ⌜ So (now (buf .entry)) at (dash ∷ []) (now (buf .exit)) r ⌝ }
-{
-    buf[at] = 45;
-    at + 1
-}
-
-// A number with its sign: k is the width of its magnitude n.
-fn put_signed(buf: &mut [u8], at: usize, negative: bool, n: u64, k: usize) -> usize
-    requires { ⌜ at + wholeWidth negative k ≤ length (now buf) ⌝ }
-    ensures { λ r. ⌜ So (now (buf .entry)) at (wholeText negative k n) (now (buf .exit)) r ⌝ }
-{
-    if negative {
-        let first = put_dash(buf, at);
-        put_digits(buf, first, n, k)
-    } else {
-        put_digits(buf, at, n, k)
-    }
-}
-
-fn signed_width(negative: bool, k: usize) -> usize
-    requires { ⌜ k ≤ 20 ⌝ }
-    ensures { λ r. ⌜ (r ≡ wholeWidth negative k) × (r ≤ 21) ⌝ }
-{
-    if negative { k + 1 } else { k }
-}
-
-// Whether a text of `size` bytes has room from `at` on.
-pub fn has_room(len: usize, at: usize, size: usize) -> bool
-    ensures { λ r. ⌜ r ≡ leb (at + size) len ⌝ }
-{
-    if len < at {
-        return false;
-    }
-    size <= len - at
-}
-
-pub fn put_at(buf: &mut [u8], at: usize, negative: bool, n: u64) -> Written
-    ensures { λ r. ⌜ Writes (Signs negative n) (now (buf .entry)) at (now (buf .exit)) r ⌝ }
-{
-    let k = width(n);
-    let size = signed_width(negative, k);
-    if has_room(buf.len(), at, size) {
-        let end = put_signed(buf, at, negative, n, k);
-        return Written::Done(end);
-    }
-    Written::Refused(numbertext::refusal(18, 0, size as u32))
-}
-
-// A number with no padding, from `at` on: the answer tells the place after it.
-pub fn put_number(buf: &mut [u8], at: usize, n: u32) -> Written
-    ensures { λ r. ⌜ PutNumber n (now (buf .entry)) at (now (buf .exit)) r ⌝ }
-{
-    put_at(buf, at, false, n as u64)
-}
-
-pub fn put_whole(buf: &mut [u8], at: usize, x: i64) -> Written
-    ensures { λ r. ⌜ PutWhole x (now (buf .entry)) at (now (buf .exit)) r ⌝ }
-{
-    let negative = whole::is_negative(x);
-    let n = whole::magnitude(x);
-    put_at(buf, at, negative, n)
-}
-
-// The year's sign and magnitude, the month and the day, each with its width.
-fn put_ymd(
-    buf: &mut [u8],
-    negative: bool,
-    n: u64,
-    ky: usize,
-    m: u64,
-    km: usize,
-    d: u64,
-    kd: usize,
-) -> usize
-    requires { ⌜ wholeWidth negative ky + km + kd + 2 ≤ length (now buf) ⌝ }
-    ensures { λ r. ⌜ So (now (buf .entry)) 0 (ymdText negative ky n km m kd d) (now (buf .exit)) r ⌝ }
-{
-    let a = put_signed(buf, 0, negative, n, ky);
-    let b = put_dash(buf, a);
-    let c = put_digits(buf, b, m, km);
-    let e = put_dash(buf, c);
-    put_digits(buf, e, d, kd)
-}
-
-// The text of a date at the front of the buffer: the answer tells its length.
-pub fn write_ymd(buf: &mut [u8], year: i32, month: u32, day: u32) -> Written
-    ensures { λ r. ⌜ WriteYmd year month day (now (buf .entry)) (now (buf .exit)) r ⌝ }
-{
-    let x = whole::widened(year);
-    let negative = whole::is_negative(x);
-    let n = whole::magnitude(x);
-    let ky = width(n);
-    let km = width(month as u64);
-    let kd = width(day as u64);
-    let size = signed_width(negative, ky) + km + kd + 2;
-    if buf.len() < size {
-        return Written::Refused(numbertext::refusal(18, 0, size as u32));
-    }
-    let end = put_ymd(buf, negative, n, ky, month as u64, km, day as u64, kd);
-    Written::Done(end)
 }

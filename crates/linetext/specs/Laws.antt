@@ -16,10 +16,10 @@ use Rattle.calendar.specs.declared.Date.{Date}
 use Rattle.calendar.specs.declared.Refusal.{Refusal}
 use Rattle.calendar.specs.declared.Dated.{Dated}
 use Rattle.calendar.specs.declared.Dated.the-variants as Dated′
-use Rattle.datetext.specs.Writing.{WholeDecimal, put, Puts, Writes}
-use Rattle.datetext.specs.Decimals.{digitsOf, length-digits, Width, width-few, decimal-of, counting-start, counting-step}
-use Rattle.datetext.specs.Puts.{put-none, put-byte, put-then, length-put, So, so-on, wrote, left-alone, wholeText, Signs, whole-text}
-use Rattle.datetext.specs.declared.Written.{Written}
+use Rattle.writer.specs.Writing.{WholeDecimal, put, Puts, Writes}
+use Rattle.writer.specs.Decimals.{digitsOf, length-digits, Width, width-few, decimal-of, counting-start, counting-step}
+use Rattle.writer.specs.Puts.{put-none, put-byte, put-then, length-put, So, so-on, wrote, left-alone, wholeText, Signs, whole-text}
+use Rattle.writer.specs.declared.Written.{Written}
 use Rattle.linetext.specs.Line.{newline, tab, mark, Columns, dateColumns, refusalColumns, of-date, of-refusal, Ended, ended, LineOut, Copies, copied, no-room}
 use Rattle.linetext.specs.declared.Copied.{Copied}
 

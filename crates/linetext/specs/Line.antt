@@ -9,7 +9,7 @@ use Rattle.calendar.specs.declared.Date.{Date}
 use Rattle.calendar.specs.declared.Refusal.{Refusal}
 use Rattle.calendar.specs.declared.Dated.{Dated}
 use Rattle.calendar.specs.declared.Dated.the-variants as Dated′
-use Rattle.datetext.specs.Writing.{WholeDecimal, put}
+use Rattle.writer.specs.Writing.{WholeDecimal, put}
 use Rattle.linetext.specs.declared.Copied.{Copied}
 
 abbrev pub newline : ℕ

@@ -6,10 +6,10 @@ use mathlib.Core.List.{List, [], _∷_, _++_}
 use native.Mathlib.Omega.{arith}
 use lib.IntN.{ℤ}
 use Rattle.calendar.specs.declared.Dated.{Dated}
-use Rattle.datetext.specs.Writing.{Writes}
-use Rattle.datetext.specs.Decimals.{whole-one}
-use Rattle.datetext.specs.Theorems.{writes-one}
-use Rattle.datetext.specs.declared.Written.{Written}
+use Rattle.writer.specs.Writing.{Writes}
+use Rattle.writer.specs.Decimals.{whole-one}
+use Rattle.writer.specs.Theorems.{writes-one}
+use Rattle.writer.specs.declared.Written.{Written}
 use Rattle.linetext.specs.Line.{newline, tab, mark, Columns, LineText, of-date, of-refusal, Ended, ended, LineOut, Copies, copied, no-room}
 use Rattle.linetext.specs.declared.Copied.{Copied}
 

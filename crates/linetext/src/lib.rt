@@ -7,9 +7,9 @@ ghost use mathlib.Core.Bool.{false};
 ghost use Prim.Native.Nat.{_+_, _<_, _≤_};
 ghost use lib.ListN.{length};
 ghost use lib.IntN.{pos};
-ghost use Rattle.datetext.specs.Writing.{Writes};
-ghost use Rattle.datetext.specs.Decimals.{digitsOf};
-ghost use Rattle.datetext.specs.Puts.{So, Signs};
+ghost use Rattle.writer.specs.Writing.{Writes};
+ghost use Rattle.writer.specs.Decimals.{digitsOf};
+ghost use Rattle.writer.specs.Puts.{So, Signs};
 ghost use Rattle.calendar.specs.declared.Dated.the-variants.{Date as OfDate, Refused};
 ghost use Rattle.linetext.specs.Line.{LineOut, Copies};
 ghost use Rattle.linetext.specs.Laws.{Text, Column, RowOf, LineOf};
@@ -17,7 +17,7 @@ use calendar::Date;
 use calendar::Dated;
 use calendar::Refusal;
 use calendar::Weekday;
-use datetext::Written;
+use writer::Written;
 
 // ---- numbers in columns. Each function writes from `at` on, and answers the place after what it wrote.
 
@@ -82,7 +82,7 @@ fn put_large(out: &mut [u8], at: usize, n: u64) -> usize
     requires { ⌜ at + 20 ≤ length (now out) ⌝ }
     ensures { λ r. ⌜ Text (Signs false n) 20 (now (out .entry)) at (now (out .exit)) r ⌝ }
 {
-    match datetext::put_at(out, at, false, n) {
+    match writer::put_at(out, at, false, n) {
         Written::Done(next) => next,
         Written::Refused(_) => at,
     }
@@ -222,7 +222,7 @@ fn put_apart(out: &mut [u8], at: usize, answer: Dated) -> Written
 {
     let mut apart = [0u8; 132];
     let size = put_answer(&mut apart, 0, answer);
-    if datetext::has_room(out.len(), at, size) {
+    if writer::has_room(out.len(), at, size) {
         let end = put_bytes(out, at, &apart[..size]);
         return Written::Done(end);
     }
@@ -233,7 +233,7 @@ fn put_apart(out: &mut [u8], at: usize, answer: Dated) -> Written
 pub fn put_line(out: &mut [u8], at: usize, answer: Dated) -> Written
     ensures { λ r. ⌜ Writes (LineOut answer) (now (out .entry)) at (now (out .exit)) r ⌝ }
 {
-    if datetext::has_room(out.len(), at, 132) {
+    if writer::has_room(out.len(), at, 132) {
         let end = put_answer(out, at, answer);
         return Written::Done(end);
     }
@@ -250,7 +250,7 @@ pub enum Copied {
 pub fn copy_text(out: &mut [u8], at: usize, text: &[u8]) -> Copied
     ensures { λ r. ⌜ Copies (now (text .entry)) (now (out .entry)) at (now (out .exit)) r ⌝ }
 {
-    if datetext::has_room(out.len(), at, text.len()) {
+    if writer::has_room(out.len(), at, text.len()) {
         let end = put_bytes(out, at, text);
         return Copied::To(end);
     }

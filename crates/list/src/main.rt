@@ -3,7 +3,7 @@
 
 ghost use Prim.Native.Nat.{_<_, _≤_};
 ghost use lib.ListN.{length};
-use datetext::Written;
+use writer::Written;
 
 // What a read leads to: so many bytes of an unfinished line are held; or the input has ended; or reading or writing has failed.
 enum Step {

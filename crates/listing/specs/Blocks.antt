@@ -10,9 +10,9 @@ use lib.IntN.{pos}
 use Rattle.calendar.specs.declared.Dated.{Dated}
 use Rattle.calendar.specs.declared.Dated.the-variants as Dated′
 use Rattle.calendar.specs.Promise.{refusal}
-use Rattle.datetext.specs.Writing.{put, Puts, Writes}
-use Rattle.datetext.specs.Puts.{put-none, length-put, wrote, left-alone}
-use Rattle.datetext.specs.declared.Written.{Written}
+use Rattle.writer.specs.Writing.{put, Puts, Writes}
+use Rattle.writer.specs.Puts.{put-none, length-put, wrote, left-alone}
+use Rattle.writer.specs.declared.Written.{Written}
 use Rattle.numbertext.specs.Numerals.{refusal as textRefusal}
 use Rattle.calendar.specs.declared.Refusal.{Refusal}
 use Rattle.listing.specs.Lines.{header, Without, Entry, tabbed, bare, LineAnswer, Listed, listed}

@@ -15,9 +15,9 @@ use Rattle.calendar.specs.declared.Reformed.the-variants as Reformed′
 use Rattle.calendar.specs.Rows.{One, if-one}
 use Rattle.ncal.specs.Promise.{NamesCalendar}
 use Rattle.ncal.specs.Theorems.{named-one}
-use Rattle.datetext.specs.Writing.{put, Writes}
-use Rattle.datetext.specs.Theorems.{writes-one}
-use Rattle.datetext.specs.declared.Written.{Written}
+use Rattle.writer.specs.Writing.{put, Writes}
+use Rattle.writer.specs.Theorems.{writes-one}
+use Rattle.writer.specs.declared.Written.{Written}
 use Rattle.dateparse.specs.Promise.{ParseDate}
 use Rattle.dateparse.specs.Theorems.{parse-date-one}
 use Rattle.listing.specs.Lines.{header, Without, Lines, Entry, tabbed, bare, ByEntry, no-name, by-text, LineAnswer, Listed, listed, AllListed, Listing, listing}

@@ -14,8 +14,8 @@ use lib.Seq.{take-at, drop-drop, drop-at, length-take-le, drop-length}
 use Rattle.whole.specs.Tests.{lt-or-ge}
 use Rattle.calendar.specs.Rows.{refuses}
 use Rattle.calendar.specs.declared.Dated.{Dated}
-use Rattle.datetext.specs.Writing.{put}
-use Rattle.datetext.specs.Puts.{put-none, put-then, length-put}
+use Rattle.writer.specs.Writing.{put}
+use Rattle.writer.specs.Puts.{put-none, put-then, length-put}
 use Rattle.listing.specs.Lines.{header, Without, Lines, LineAnswer, Listed, listed, AllListed, Listing, listing}
 use Rattle.linetext.specs.Line.{newline}
 use Rattle.listing.specs.Blocks.{without-both, Fills, HeldAnswer, HeldLine, LastLine, Stand, stand, Turn, Lists}

@@ -4,13 +4,13 @@
 ghost use mathlib.Core.Path.{_≡_};
 ghost use Prim.Native.Nat.{_+_, _<_, _≤_};
 ghost use lib.ListN.{length, take};
-ghost use Rattle.datetext.specs.Writing.{Writes};
+ghost use Rattle.writer.specs.Writing.{Writes};
 ghost use Rattle.listing.specs.Lines.{header, LineAnswer, Listed};
 ghost use Rattle.listing.specs.Blocks.{UpTo, TextFrom, Fills, HeldAnswer, HeldLine, Wrote, LastLine, stand, Turn, Lists};
 use calendar::Dated;
 use calendar::Reformed;
-use datetext::Written;
 use linetext::Copied;
+use writer::Written;
 
 // ---- the answer to a line
 
@@ -187,7 +187,7 @@ pub fn list_block(
     let mut n = held;
     let mut to = used;
     while at < block.len() {
-        if datetext::has_room(out.len(), to, 132) {
+        if writer::has_room(out.len(), to, 132) {
             let p = turn(block, at, line, n, out, to);
             at = p.at;
             n = p.held;
@@ -214,7 +214,7 @@ pub fn list_last(line: &[u8; 512], held: usize, out: &mut [u8], at: usize) -> Wr
     if 0 < held {
         return linetext::put_line(out, at, held_answer(line, held));
     }
-    if datetext::has_room(out.len(), at, 0) {
+    if writer::has_room(out.len(), at, 0) {
         return Written::Done(at);
     }
     Written::Refused(numbertext::refusal(18, 0, 0))

@@ -3,7 +3,7 @@
 
 ghost use Prim.Native.Nat.{_≤_};
 ghost use lib.ListN.{length};
-use datetext::Written;
+use writer::Written;
 
 // The listing of two blocks, the first of `cut` bytes: how many bytes it has.
 fn list_cut(input: &[u8], cut: usize, line: &mut [u8; 512], out: &mut [u8]) -> usize

@@ -5,8 +5,8 @@ use calendar::Calendar;
 use calendar::Date;
 use calendar::Dated;
 use calendar::Refusal;
-use datetext::Written;
 use libc::STDOUT_FILENO;
+use writer::Written;
 
 fn say(words: &[u8]) {
     io::write_all(STDOUT_FILENO, words);
@@ -21,7 +21,7 @@ fn say_front(words: &[u8], n: usize) {
 // A number, and spaces up to the next column.
 fn say_field(x: i64) {
     let mut column = [b' '; 12];
-    datetext::put_whole(&mut column, 0, x);
+    writer::put_whole(&mut column, 0, x);
     say(&column);
 }
 
@@ -56,7 +56,7 @@ fn say_date(d: Date) {
 
 fn say_number(x: i64) {
     let mut digits = [b' '; 20];
-    match datetext::put_whole(&mut digits, 0, x) {
+    match writer::put_whole(&mut digits, 0, x) {
         Written::Done(n) => say_front(&digits, n),
         Written::Refused(_) => {}
     }
@@ -517,7 +517,7 @@ fn written(calendar: Calendar, buf: &[u8], done: Written) {
 // A number below 100 and the spaces up to the next column.
 fn say_size(n: u32) {
     let mut column = [b' '; 3];
-    datetext::put_number(&mut column, 0, n);
+    writer::put_number(&mut column, 0, n);
     say(&column);
 }
 

@@ -11,12 +11,12 @@ use calendar::Dated;
 use calendar::ReformDate;
 use calendar::ReformDay;
 use calendar::Reformed;
-use datetext::Written;
 use query::Head;
 use query::Numbers;
 use reply::Reply;
 use unixtime::DayTime;
 use unixtime::Timed;
+use writer::Written;
 
 // ---- Queries about a calendar
 

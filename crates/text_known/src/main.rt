@@ -23,9 +23,9 @@ fn small(place: usize) -> u32 {
 fn say_refusal(f: calendar::Refusal) {
     let mut line = [b' '; 40];
     line[0] = b'!';
-    datetext::put_number(&mut line, 2, f.number);
-    datetext::put_number(&mut line, 14, small(f.place));
-    datetext::put_whole(&mut line, 26, f.value);
+    writer::put_number(&mut line, 2, f.number);
+    writer::put_number(&mut line, 14, small(f.place));
+    writer::put_whole(&mut line, 26, f.value);
     line[39] = b'\n';
     say(&line);
 }
@@ -33,9 +33,9 @@ fn say_refusal(f: calendar::Refusal) {
 fn say_ordinal(year: i32, ordinal: u32, place: usize) {
     let mut line = [b' '; 40];
     line[0] = b'o';
-    datetext::put_whole(&mut line, 2, whole::widened(year));
-    datetext::put_number(&mut line, 14, ordinal);
-    datetext::put_number(&mut line, 26, small(place));
+    writer::put_whole(&mut line, 2, whole::widened(year));
+    writer::put_number(&mut line, 14, ordinal);
+    writer::put_number(&mut line, 26, small(place));
     line[39] = b'\n';
     say(&line);
 }
@@ -43,10 +43,10 @@ fn say_ordinal(year: i32, ordinal: u32, place: usize) {
 fn say_day(year: i32, month: u32, day: u32, place: usize) {
     let mut line = [b' '; 48];
     line[0] = b'd';
-    datetext::put_whole(&mut line, 2, whole::widened(year));
-    datetext::put_number(&mut line, 14, month);
-    datetext::put_number(&mut line, 26, day);
-    datetext::put_number(&mut line, 38, small(place));
+    writer::put_whole(&mut line, 2, whole::widened(year));
+    writer::put_number(&mut line, 14, month);
+    writer::put_number(&mut line, 26, day);
+    writer::put_number(&mut line, 38, small(place));
     line[47] = b'\n';
     say(&line);
 }
@@ -230,9 +230,9 @@ fn single_end() {
 
 // What the writer leaves of a buffer of dots.
 fn write(buf: &mut [u8], year: i32, month: u32, day: u32) {
-    match datetext::write_ymd(buf, year, month, day) {
-        datetext::Written::Done(n) => say_ordinal(0, small(n), 0),
-        datetext::Written::Refused(f) => say_refusal(f),
+    match writer::write_ymd(buf, year, month, day) {
+        writer::Written::Done(n) => say_ordinal(0, small(n), 0),
+        writer::Written::Refused(f) => say_refusal(f),
     }
     say(buf);
     say(b"\n");

@@ -2,7 +2,7 @@
 -- Assumes nothing.
 use native.Mathlib.Omega.{arith}
 use Rattle.numbertext.specs.Few.{digit-seen, pair-seen}
-use Rattle.datetext.specs.Usual.{IfAt, two-digit-day, one-digit-day}
+use Rattle.datetext.specs.Usual.{two-digit-day, one-digit-day}
 use borrow.Author.Needs.{needs}
 use Rattle.datetext.proofs.usual_day.Statement.{statement}
 use Rattle.datetext.proofs.usual_day.Tie as tie
@@ -13,41 +13,22 @@ sub-left c = search needs
 pair-at-requires : tie.Need-pair-at-requires
 pair-at-requires c κs = search needs
 
-add-t9 : tie.Need-add-t9
-add-t9 c = search needs
-
 returns : tie.Need-returns
-returns c = IfAt.found (two-digit-day _ (omega arith) (pair-seen _ _ (c .before .pair-at .ensures) (c .if2 .taken)))
-
-returns-2 : tie.Need-returns-2
-returns-2 c = IfAt.other
+returns c = λ h. two-digit-day _ (omega arith) (pair-seen _ _ (c .pair-at .ensures) h)
 
 digit-at-requires : tie.Need-digit-at-requires
 digit-at-requires c κs = search needs
 
-add-t11 : tie.Need-add-t11
-add-t11 c = search needs
+returns-2 : tie.Need-returns-2
+returns-2 c = λ _. one-digit-day _ (omega arith) (digit-seen _ _ (c .before .digit-at .ensures) (c .if3 .taken))
 
 returns-3 : tie.Need-returns-3
-returns-3 c = IfAt.found (one-digit-day _ (omega arith) (digit-seen _ _ (c .before .digit-at .ensures) (c .if4 .taken)))
+returns-3 c = λ h. absurd (omega arith)
 
 returns-4 : tie.Need-returns-4
-returns-4 c = IfAt.other
-
-returns-5 : tie.Need-returns-5
-returns-5 c = IfAt.other
+returns-4 c = λ h. absurd (omega arith)
 
 pub usual-day-spec : {M : Type 1} → statement M
 usual-day-spec =
     tie.close
-    (tie.spec
-    sub-left
-    pair-at-requires
-    add-t9
-    returns
-    returns-2
-    digit-at-requires
-    add-t11
-    returns-3
-    returns-4
-    returns-5)
+    (tie.spec sub-left pair-at-requires returns digit-at-requires returns-2 returns-3 returns-4)

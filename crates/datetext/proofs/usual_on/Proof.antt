@@ -6,7 +6,7 @@ use mir.Facts.{toZ-ofZ}
 use denote.Ref.{now}
 use Rattle.numbertext.specs.Reading.{theNumber}
 use Rattle.datetext.specs.Reading.{afterDay, afterSecond}
-use Rattle.datetext.specs.Usual.{if-at, MonthRead, DayRead}
+use Rattle.datetext.specs.Usual.{if-at, MonthRead}
 use Rattle.datetext.specs.declared.Text.{Text}
 use borrow.Author.Needs.{needs}
 use Rattle.datetext.proofs.usual_on.Statement.{statement}
@@ -14,9 +14,6 @@ use Rattle.datetext.proofs.usual_on.Tie as tie
 
 month : (c : tie.After-known-told) → MonthRead (now (c .before .before .before .before .before .args .text)) (c .before .before .before .before .before .args .at) (c .before .month .given .0 .0) (c .before .month .given .0 .1 .0)
 month c = if-at (rw (c .before .month .given .1) at (c .before .before .before .usual-month .ensures))
-
-day : (c : tie.After-known-told2) → DayRead (now (c .before .before .before .before .before .before .before .before .before .args .text)) (c .before .before .before .before .before .month .given .0 .1 .0) (c .before .day .given .0 .0) (c .before .day .given .0 .1 .0)
-day c = if-at (rw (c .before .day .given .1) at (c .before .before .before .usual-day .ensures))
 
 usual-month-requires : tie.Need-usual-month-requires
 usual-month-requires c κs = search needs
@@ -33,14 +30,8 @@ enum-known-month c = search needs
 usual-day-requires : tie.Need-usual-day-requires
 usual-day-requires c κs = month c .within
 
-enum-told-2 : tie.Need-enum-told-2
-enum-told-2 c = search needs
-
 day-on-requires : tie.Need-day-on-requires
 day-on-requires c κs = search needs
-
-enum-known-day : tie.Need-enum-known-day
-enum-known-day c = search needs
 
 returns : tie.Need-returns
 returns c =
@@ -49,23 +40,22 @@ returns c =
 
 returns-2 : tie.Need-returns-2
 returns-2 c =
-    let k = c .before .before .before .before in
+    let k = c .before .before in
+    let a = k .before .before .before .before .before in
+    let m = k .before .month .given .0 .0 in
+    let n = k .before .month .given .0 .1 .0 in
+    ap (λ (y : ℤ). Text.Ymd y m (c .before .usual-day .result) n) (toZ-ofZ (a .fits .year))
+    ∙ sym (c .before .usual-day .ensures (c .if1 .taken) .read (a .args .year) m)
+    ∙ sym (month k .read (a .args .year))
+
+returns-3 : tie.Need-returns-3
+returns-3 c =
+    let k = c .before .before .before in
     let a = k .before .before .before .before .before in
     let m = k .before .month .given .0 .0 in
     let n = k .before .month .given .0 .1 .0 in
     c .day-on .ensures
     ∙ ap (λ (y : ℤ). afterDay (now (a .args .text)) y m n (theNumber (now (a .args .text)) n)) (toZ-ofZ (a .fits .year))
-    ∙ sym (month k .read (a .args .year))
-
-returns-3 : tie.Need-returns-3
-returns-3 c =
-    let k = c .before .before .before .before in
-    let a = k .before .before .before .before .before in
-    let m = k .before .month .given .0 .0 in
-    let n = k .before .month .given .0 .1 .0 in
-    let d = c .before .day .given .0 .0 in
-    ap (λ (y : ℤ). Text.Ymd y m d n) (toZ-ofZ (a .fits .year))
-    ∙ sym (day c .read (a .args .year) m)
     ∙ sym (month k .read (a .args .year))
 
 pub usual-on-spec : {M : Type 1} → statement M
@@ -77,9 +67,7 @@ usual-on-spec =
     second-on-requires
     enum-known-month
     usual-day-requires
-    enum-told-2
     day-on-requires
-    enum-known-day
     returns
     returns-2
     returns-3)

@@ -1,10 +1,10 @@
--- `datetext::put_at` meets its contract: there is room for the number and it is put there, or the buffer is left.
+-- `writer::put_at` meets its contract: there is room for the number and it is put there, or the buffer is left.
 -- Assumes nothing.
 use denote.Ref.{now}
-use Rattle.datetext.specs.Puts.{room-for, signed-wrote, signed-left}
+use Rattle.writer.specs.Puts.{room-for, signed-wrote, signed-left}
 use borrow.Author.Needs.{needs}
-use Rattle.datetext.proofs.put_at.Statement.{statement}
-use Rattle.datetext.proofs.put_at.Tie as tie
+use Rattle.writer.proofs.put_at.Statement.{statement}
+use Rattle.writer.proofs.put_at.Tie as tie
 
 width-requires : tie.Need-width-requires
 width-requires c κs = search needs

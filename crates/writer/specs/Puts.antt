@@ -1,7 +1,7 @@
 -- Texts put into a buffer: one after another, a byte, and digits from the last to the first; and what a writer that has done so promises.
 -- Assumes nothing.
 use Prim.Native.Nat.{ℕ, suc, _+_, _-_, _/_, _%_, _≤_, _<_}
-use mathlib.Core.Path.{_≡_, sym, _∙_, ap, ap₂, subst}
+use mathlib.Core.Path.{_≡_, refl, sym, _∙_, ap, ap₂, subst}
 use mathlib.Core.Bool.{Bool, true, false}
 use mathlib.Core.List.{List, [], _∷_, _++_, append-assoc}
 use native.Mathlib.Nat.{add-zero}
@@ -13,12 +13,12 @@ use mathlib.Core.Logic.{⊎-elim}
 use borrow.Author.Tests.{le-leb, lt-leb, leb-true, leb-false}
 use Rattle.whole.specs.Tests.{lt-or-ge}
 use lib.IntN.{ℤ, pos, negsuc, natAbs}
-use Rattle.calendar.specs.declared.Refusal.{Refusal}
+use Rattle.refusals.specs.declared.Refusal.{Refusal}
 use Rattle.whole.specs.Edge.{isNegative}
 use Rattle.numbertext.specs.Numerals.{dash, refusal}
-use Rattle.datetext.specs.Writing.{Decimal, WholeDecimal, YmdDecimal, put, Puts, Writes, PutNumber, PutWhole, WriteYmd}
-use Rattle.datetext.specs.Decimals.{digitsOf, length-digits, Width, decimal-of}
-use Rattle.datetext.specs.declared.Written.{Written}
+use Rattle.writer.specs.Writing.{Decimal, WholeDecimal, YmdDecimal, put, Puts, Writes, PutNumber, PutWhole, WriteYmd}
+use Rattle.writer.specs.Decimals.{digitsOf, length-digits, Width, decimal-of}
+use Rattle.writer.specs.declared.Written.{Written}
 
 -- ---- a buffer
 
@@ -159,51 +159,38 @@ left-alone {b = b} {at = at} t x e h g =
 
 -- ---- what the parts of a date come to, one after the other
 
-pub so-signed : (k n : ℕ) {b : List ℕ} {at : ℕ} {b₁ b₂ : List ℕ} {i j : ℕ} {neg : Bool} → neg ≡ true → at + wholeWidth neg k ≤ length b
-    → So b at (dash ∷ []) b₁ i → So b₁ i (digitsOf k n) b₂ j → So b at (wholeText neg k n) b₂ j
-so-signed k n {b} {at} {b₂ = b₂} {j = j} {neg = neg} e h s r =
-    subst (λ (t : Bool). So b at (wholeText t k n) b₂ j) (sym e)
-    (so-on s (digitsOf k n) (omega (arith, ap (λ (t : Bool). wholeWidth t k) e, length-digits k n)) r)
+pub signed-room : (k at : ℕ) {len : ℕ} {neg : Bool} → neg ≡ true → at + wholeWidth neg k ≤ len → at + 1 + k ≤ len
+signed-room k at {len} e h = omega (arith, subst (λ (t : Bool). at + wholeWidth t k ≤ len) e h)
+
+pub so-signed : (k n : ℕ) {b : List ℕ} {at : ℕ} {b′ : List ℕ} {i : ℕ} {neg : Bool} → neg ≡ true → at + wholeWidth neg k ≤ length b
+    → So (set b at dash) (at + 1) (digitsOf k n) b′ i → So b at (wholeText neg k n) b′ i
+so-signed k n {b} {at} {b′} {i} e h s =
+    let room : at + 1 + k ≤ length b = signed-room k at e h in
+    subst (λ (t : Bool). So b at (wholeText t k n) b′ i) (sym e)
+    (so-on {t = dash ∷ []} (record { is = put-byte b at dash (omega arith); place = refl }) (digitsOf k n) (omega (arith, length-digits k n)) s)
 
 pub so-plain : (k n : ℕ) {b : List ℕ} {at : ℕ} {b₁ : List ℕ} {i : ℕ} {neg : Bool} → neg ≡ false → So b at (digitsOf k n) b₁ i → So b at (wholeText neg k n) b₁ i
 so-plain k n {b} {at} {b₁} {i} e s = subst (λ (t : Bool). So b at (wholeText t k n) b₁ i) (sym e) s
 
--- a year, a dash, a month, a dash and a day
-module _ (neg : Bool) (ky n km m kd d : ℕ) {b b₁ b₂ b₃ b₄ b₅ : List ℕ} {i₁ i₂ i₃ i₄ i₅ : ℕ} (h : wholeWidth neg ky + km + kd + 2 ≤ length b)
-    (s₁ : So b 0 (wholeText neg ky n) b₁ i₁) (s₂ : So b₁ i₁ (dash ∷ []) b₂ i₂) (s₃ : So b₂ i₂ (digitsOf km m) b₃ i₃)
-    (s₄ : So b₃ i₃ (dash ∷ []) b₄ i₄) (s₅ : So b₄ i₄ (digitsOf kd d) b₅ i₅) where
-  pub so-ymd : So b 0 (ymdText neg ky n km m kd d) b₅ i₅
+-- a year, and a month and a day with a dash before each
+module _ (neg : Bool) (ky n km m kd d : ℕ) {b b₁ b₂ b₃ : List ℕ} {i₁ i₂ i₃ : ℕ} (h : wholeWidth neg ky + km + kd + 2 ≤ length b)
+    (s₁ : So b 0 (wholeText neg ky n) b₁ i₁) (s₂ : So b₁ i₁ (wholeText true km m) b₂ i₂) (s₃ : So b₂ i₂ (wholeText true kd d) b₃ i₃) where
+  pub so-ymd : So b 0 (ymdText neg ky n km m kd d) b₃ i₃
   so-ymd =
-      subst (λ (t : List ℕ). So b 0 t b₅ i₅) whole-of
-      (so-on (so-on (so-on (so-on s₁ (dash ∷ []) (omega (arith, w)) s₂) (digitsOf km m) (omega (arith, w, l₂, lm)) s₃) (dash ∷ []) (omega (arith, w, l₂, l₃, lm)) s₄)
-      (digitsOf kd d) (omega (arith, w, l₂, l₃, l₄, lm, ld)) s₅)
+      subst (λ (t : List ℕ). So b 0 t b₃ i₃) (append-assoc (wholeText neg ky n) (wholeText true km m) (wholeText true kd d))
+      (so-on (so-on s₁ (wholeText true km m) (omega (arith, w, lm)) s₂) (wholeText true kd d) (omega (arith, w, lm, ld, l₂)) s₃)
     where
       w : length (wholeText neg ky n) ≡ wholeWidth neg ky
       w = length-whole neg ky n
 
-      lm : length (digitsOf km m) ≡ km
-      lm = length-digits km m
+      lm : length (wholeText true km m) ≡ km + 1
+      lm = length-whole true km m
 
-      ld : length (digitsOf kd d) ≡ kd
-      ld = length-digits kd d
+      ld : length (wholeText true kd d) ≡ kd + 1
+      ld = length-whole true kd d
 
-      t₂ : List ℕ
-      t₂ = wholeText neg ky n ++ (dash ∷ [])
-
-      t₃ : List ℕ
-      t₃ = t₂ ++ digitsOf km m
-
-      l₂ : length t₂ ≡ length (wholeText neg ky n) + 1
-      l₂ = length-append (wholeText neg ky n) (dash ∷ [])
-
-      l₃ : length t₃ ≡ length t₂ + length (digitsOf km m)
-      l₃ = length-append t₂ (digitsOf km m)
-
-      l₄ : length (t₃ ++ (dash ∷ [])) ≡ length t₃ + 1
-      l₄ = length-append t₃ (dash ∷ [])
-
-      whole-of : (t₃ ++ (dash ∷ [])) ++ digitsOf kd d ≡ ymdText neg ky n km m kd d
-      whole-of = simp append-assoc
+      l₂ : length (wholeText neg ky n ++ wholeText true km m) ≡ length (wholeText neg ky n) + length (wholeText true km m)
+      l₂ = length-append (wholeText neg ky n) (wholeText true km m)
 
 -- ---- the text of a sign and a magnitude, whatever its width
 
@@ -264,8 +251,6 @@ module _ (y : ℤ) (m d : ℕ) {neg : Bool} {n ky km kd w : ℕ} (e : neg ≡ is
   pub ymd-left : length b < w + km + kd + 2 → {f : Refusal} → f ≡ refusal 18 0 (pos (w + km + kd + 2)) → WriteYmd y m d b b (Written.Refused f)
   ymd-left h g = left-alone (ymdText neg ky n km m kd d) text-is size-is (omega (arith, size-is)) g
 
-  pub ymd-room : w + km + kd + 2 ≤ length b → wholeWidth neg ky + km + kd + 2 ≤ length b
-  ymd-room h = subst (λ (i : ℕ). i + km + kd + 2 ≤ length b) s h
-
-  pub ymd-wrote : w + km + kd + 2 ≤ length b → {b′ : List ℕ} {i : ℕ} → So b 0 (ymdText neg ky n km m kd d) b′ i → WriteYmd y m d b b′ (Written.Done i)
-  ymd-wrote h r = wrote text-is (omega (arith, size-is)) r
+  pub ymd-wrote : w + km + kd + 2 ≤ length b → {b₁ b₂ b₃ : List ℕ} {i₁ i₂ i₃ : ℕ}
+      → So b 0 (wholeText neg ky n) b₁ i₁ → So b₁ i₁ (wholeText true km m) b₂ i₂ → So b₂ i₂ (wholeText true kd d) b₃ i₃ → WriteYmd y m d b b₃ (Written.Done i₃)
+  ymd-wrote h s₁ s₂ s₃ = wrote text-is (omega (arith, size-is)) (so-ymd neg ky n km m kd d (subst (λ (i : ℕ). i + km + kd + 2 ≤ length b) s h) s₁ s₂ s₃)

@@ -1,9 +1,9 @@
--- `datetext::put_number` meets its contract.
+-- `writer::put_number` meets its contract.
 -- Assumes nothing.
-use Rattle.datetext.specs.Puts.{as-number}
+use Rattle.writer.specs.Puts.{as-number}
 use borrow.Author.Needs.{needs}
-use Rattle.datetext.proofs.put_number.Statement.{statement}
-use Rattle.datetext.proofs.put_number.Tie as tie
+use Rattle.writer.proofs.put_number.Statement.{statement}
+use Rattle.writer.proofs.put_number.Tie as tie
 
 put-at-requires : tie.Need-put-at-requires
 put-at-requires c κs = search needs

@@ -1,13 +1,13 @@
--- `datetext::put_whole` meets its contract.
+-- `writer::put_whole` meets its contract.
 -- Assumes nothing.
 use mathlib.Core.Path.{ap, _∙_}
 use lib.IntN.{natAbs}
 use mir.Facts.{toZ-ofZ}
 use Rattle.whole.specs.Edge.{isNegative}
-use Rattle.datetext.specs.Puts.{as-whole}
+use Rattle.writer.specs.Puts.{as-whole}
 use borrow.Author.Needs.{needs}
-use Rattle.datetext.proofs.put_whole.Statement.{statement}
-use Rattle.datetext.proofs.put_whole.Tie as tie
+use Rattle.writer.proofs.put_whole.Statement.{statement}
+use Rattle.writer.proofs.put_whole.Tie as tie
 
 is-negative-requires : tie.Need-is-negative-requires
 is-negative-requires c κs = search needs

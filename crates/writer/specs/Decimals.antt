@@ -10,7 +10,7 @@ use lib.ListN.{length, getD, length-append}
 use lib.IntN.{ℤ}
 use Rattle.whole.specs.Tests.{lt-or-ge}
 use Rattle.numbertext.specs.Numerals.{dash, valueFrom, valueOf, Digit, Digits, Numeral}
-use Rattle.datetext.specs.Writing.{Decimal, WholeDecimal, YmdDecimal}
+use Rattle.writer.specs.Writing.{Decimal, WholeDecimal, YmdDecimal}
 
 -- the last k digits of n
 abbrev pub digitsOf : ℕ → ℕ → List ℕ

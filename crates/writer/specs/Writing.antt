@@ -6,7 +6,7 @@ use mathlib.Core.List.{List, _∷_, _++_}
 use lib.ListN.{length, getD, take, drop}
 use lib.IntN.{ℤ, pos, negsuc}
 use Rattle.numbertext.specs.Numerals.{dash, refusal, Numeral}
-use Rattle.datetext.specs.declared.Written.{Written}
+use Rattle.writer.specs.declared.Written.{Written}
 
 -- digits that write n with no padding: a '0' stands first only where it stands alone
 pub record Decimal (p : List ℕ) (n : ℕ) : Type 0 where

@@ -1,11 +1,11 @@
--- `datetext::signed_width` meets its contract: the test is that of `wholeWidth`.
+-- `writer::signed_width` meets its contract: the test is that of `wholeWidth`.
 -- Assumes nothing.
 use mathlib.Core.Path.{sym, ap}
 use mathlib.Core.Bool.{Bool}
-use Rattle.datetext.specs.Puts.{wholeWidth}
+use Rattle.writer.specs.Puts.{wholeWidth}
 use borrow.Author.Needs.{needs}
-use Rattle.datetext.proofs.signed_width.Statement.{statement}
-use Rattle.datetext.proofs.signed_width.Tie as tie
+use Rattle.writer.proofs.signed_width.Statement.{statement}
+use Rattle.writer.proofs.signed_width.Tie as tie
 
 add-result : tie.Need-add-result
 add-result c = search needs

@@ -1,8 +1,8 @@
--- `datetext::has_room` meets its contract.
+-- `writer::has_room` meets its contract.
 -- Assumes nothing.
-use Rattle.datetext.specs.Puts.{room-test, no-room-test}
-use Rattle.datetext.proofs.has_room.Statement.{statement}
-use Rattle.datetext.proofs.has_room.Tie as tie
+use Rattle.writer.specs.Puts.{room-test, no-room-test}
+use Rattle.writer.proofs.has_room.Statement.{statement}
+use Rattle.writer.proofs.has_room.Tie as tie
 
 returns : tie.Need-returns
 returns c = no-room-test _ _ _ (c .if1 .taken)

@@ -1,12 +1,12 @@
--- `datetext::put_digits` meets its contract. The loop's invariant is `Filling`: what is still to be put takes the buffer to the whole. The measure is how many digits are left.
+-- `writer::put_digits` meets its contract. The loop's invariant is `Filling`: what is still to be put takes the buffer to the whole. The measure is how many digits are left.
 -- Assumes nothing.
 use mathlib.Core.Path.{refl, sym, ap}
 use Prim.Native.Nat.{ℕ, _+_}
 use native.Mathlib.Omega.{arith}
-use Rattle.datetext.specs.Decimals.{length-digits}
-use Rattle.datetext.specs.Puts.{Filling, filling-step, filling-done}
-use Rattle.datetext.proofs.put_digits.Statement.{statement}
-use Rattle.datetext.proofs.put_digits.Tie as tie
+use Rattle.writer.specs.Decimals.{length-digits}
+use Rattle.writer.specs.Puts.{Filling, filling-step, filling-done}
+use Rattle.writer.proofs.put_digits.Statement.{statement}
+use Rattle.writer.proofs.put_digits.Tie as tie
 
 abbrev Inv-loop : tie.InvT-loop
 Inv-loop buf₀ at n k rest₀ left₀ buf rest left = Filling buf₀ at k n buf left rest

@@ -1,0 +1,131 @@
+// Numbers and year-month-day texts, written into a buffer that is lent. Each call answers for any buffer and any place.
+
+ghost use mathlib.Core.Path.{_≡_};
+ghost use Prim.Native.Nat.{_+_, _≤_};
+ghost use lib.ListN.{length};
+ghost use lib.Dec.{leb};
+ghost use Rattle.writer.specs.Writing.{Writes, PutNumber, PutWhole, WriteYmd};
+ghost use Rattle.writer.specs.Decimals.{digitsOf, Width};
+ghost use Rattle.writer.specs.Puts.{So, wholeText, wholeWidth, Signs};
+use refusals::Refusal;
+
+pub enum Written {
+    Done(usize),
+    Refused(Refusal),
+}
+
+// How many digits a number has. They are counted four at a time, since most numbers in a text have fewer than five.
+fn width(n: u64) -> usize
+    ensures { λ r. ⌜ (Width n r) × (r ≤ 20) ⌝ }
+{
+    let mut rest = n;
+    let mut k: usize = 0;
+    while 10_000 <= rest {
+        rest = rest / 10_000;
+        k += 4;
+    }
+    if rest < 10 {
+        return k + 1;
+    }
+    if rest < 100 {
+        return k + 2;
+    }
+    if rest < 1000 {
+        return k + 3;
+    }
+    k + 4
+}
+
+// The last k digits of n from `at` on, and the place after them.
+fn put_digits(buf: &mut [u8], at: usize, n: u64, k: usize) -> usize
+    requires { ⌜ at + k ≤ length (now buf) ⌝ }
+    ensures { λ r. ⌜ So (now (buf .entry)) at (digitsOf k n) (now (buf .exit)) r ⌝ }
+{
+    let mut rest = n;
+    let mut left = k;
+    while 0 < left {
+        left -= 1;
+        buf[at + left] = (48 + rest % 10) as u8;
+        rest = rest / 10;
+    }
+    at + k
+}
+
+// A number with its sign: k is the width of its magnitude n.
+fn put_signed(buf: &mut [u8], at: usize, negative: bool, n: u64, k: usize) -> usize
+    requires { ⌜ at + wholeWidth negative k ≤ length (now buf) ⌝ }
+    ensures { λ r. ⌜ So (now (buf .entry)) at (wholeText negative k n) (now (buf .exit)) r ⌝ }
+{
+    if negative {
+        buf[at] = 45;
+        put_digits(buf, at + 1, n, k)
+    } else {
+        put_digits(buf, at, n, k)
+    }
+}
+
+fn signed_width(negative: bool, k: usize) -> usize
+    requires { ⌜ k ≤ 20 ⌝ }
+    ensures { λ r. ⌜ (r ≡ wholeWidth negative k) × (r ≤ 21) ⌝ }
+{
+    if negative { k + 1 } else { k }
+}
+
+// Whether a text of `size` bytes has room from `at` on.
+pub fn has_room(len: usize, at: usize, size: usize) -> bool
+    ensures { λ r. ⌜ r ≡ leb (at + size) len ⌝ }
+{
+    if len < at {
+        return false;
+    }
+    size <= len - at
+}
+
+pub fn put_at(buf: &mut [u8], at: usize, negative: bool, n: u64) -> Written
+    ensures { λ r. ⌜ Writes (Signs negative n) (now (buf .entry)) at (now (buf .exit)) r ⌝ }
+{
+    let k = width(n);
+    let size = signed_width(negative, k);
+    if has_room(buf.len(), at, size) {
+        let end = put_signed(buf, at, negative, n, k);
+        return Written::Done(end);
+    }
+    Written::Refused(numbertext::refusal(18, 0, size as u32))
+}
+
+// A number with no padding, from `at` on: the answer tells the place after it.
+pub fn put_number(buf: &mut [u8], at: usize, n: u32) -> Written
+    ensures { λ r. ⌜ PutNumber n (now (buf .entry)) at (now (buf .exit)) r ⌝ }
+{
+    put_at(buf, at, false, n as u64)
+}
+
+pub fn put_whole(buf: &mut [u8], at: usize, x: i64) -> Written
+    ensures { λ r. ⌜ PutWhole x (now (buf .entry)) at (now (buf .exit)) r ⌝ }
+{
+    let negative = whole::is_negative(x);
+    let n = whole::magnitude(x);
+    put_at(buf, at, negative, n)
+}
+
+// The text of a date at the front of the buffer: the answer tells its length. The `-` before a month and a day is put as that of a negative number is.
+pub fn write_ymd(buf: &mut [u8], year: i32, month: u32, day: u32) -> Written
+    ensures { λ r. ⌜ WriteYmd year month day (now (buf .entry)) (now (buf .exit)) r ⌝ }
+{
+    let x = whole::widened(year);
+    let negative = whole::is_negative(x);
+    let n = whole::magnitude(x);
+    let ky = width(n);
+    let m = month as u64;
+    let km = width(m);
+    let d = day as u64;
+    let kd = width(d);
+    let size = signed_width(negative, ky) + km + kd + 2;
+    if buf.len() < size {
+        return Written::Refused(numbertext::refusal(18, 0, size as u32));
+    }
+    let second = put_signed(buf, 0, negative, n, ky);
+    let third = put_signed(buf, second, true, m, km);
+    let end = put_signed(buf, third, true, d, kd);
+    Written::Done(end)
+}
