@@ -46,7 +46,7 @@ fn in_four(s: &[u8], at: usize, b: u8) -> usize
     4
 }
 
-// The places before it have eight bytes from there on.
+// Every place before this one has eight bytes from there on.
 fn turns_end(len: usize) -> usize
     ensures { λ r. ⌜ Turns len r ⌝ }
 {
@@ -90,6 +90,7 @@ fn text_from(len: usize, tab: usize) -> usize
     tab
 }
 
+// Each part of the line is lent in a function of its own, so that no function has both.
 fn named_before(line: &[u8], tab: usize) -> Reformed
     requires { ⌜ tab ≤ length (now line) ⌝ }
     ensures { λ r. ⌜ NamesCalendar (take tab (now (line .entry))) r ⌝ }
