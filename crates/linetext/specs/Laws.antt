@@ -10,17 +10,16 @@ use lib.ListN.{length, getD, take, drop, set, length-append, length-set}
 use lib.Seq.{take-suc, take-all, take-at, length-take-le}
 use lib.IntN.{ℤ, pos, natAbs}
 use Rattle.whole.specs.Edge.{isNegative}
-use Rattle.days.specs.DayByDay.{weekday}
 use Rattle.numbertext.specs.Numerals.{dash, refusal}
-use Rattle.calendar.specs.declared.Date.{Date}
-use Rattle.calendar.specs.declared.Refusal.{Refusal}
-use Rattle.calendar.specs.declared.Dated.{Dated}
-use Rattle.calendar.specs.declared.Dated.the-variants as Dated′
+use Rattle.refusals.specs.declared.Refusal.{Refusal}
 use Rattle.writer.specs.Writing.{WholeDecimal, put, Puts, Writes}
 use Rattle.writer.specs.Decimals.{digitsOf, length-digits, Width, width-few, decimal-of, counting-start, counting-step}
 use Rattle.writer.specs.Puts.{put-none, put-byte, put-then, length-put, So, so-on, wrote, left-alone, wholeText, Signs, whole-text}
 use Rattle.writer.specs.declared.Written.{Written}
-use Rattle.linetext.specs.Line.{newline, tab, mark, Columns, dateColumns, refusalColumns, of-date, of-refusal, Ended, ended, LineOut, Copies, copied, no-room}
+use Rattle.linetext.specs.Line.{newline, tab, mark, Columns, rowColumns, refusalColumns, of-row, of-refusal, Ended, ended, LineOut, Copies, copied, no-room}
+use Rattle.linetext.specs.declared.Row.{Row}
+use Rattle.linetext.specs.declared.Line.{Line}
+use Rattle.linetext.specs.declared.Line.the-variants as Line′
 use Rattle.linetext.specs.declared.Copied.{Copied}
 
 -- ---- a text of at most m bytes, as IsText says, stands in the buffer from `at` on, and every other byte is as it was; i is the place after it
@@ -167,58 +166,56 @@ whole-column {x} {neg} {n} e h = closed (λ u s. by u (subst (λ (i : ℕ). Sign
 
 -- ---- columns up to the newline, from the last one on
 
-pub data Row (xs : List ℤ) : List ℕ → Type 0 where
-  row : {t : List ℕ} → Columns xs t → Row xs (t ++ (newline ∷ []))
+pub data Cells (xs : List ℤ) : List ℕ → Type 0 where
+  cells : {t : List ℕ} → Columns xs t → Cells xs (t ++ (newline ∷ []))
 
-abbrev pub RowOf : List ℤ → ℕ → List ℕ → ℕ → List ℕ → ℕ → Type 0
-RowOf xs = Text (Row xs)
+abbrev pub CellsOf : List ℤ → ℕ → List ℕ → ℕ → List ℕ → ℕ → Type 0
+CellsOf xs = Text (Cells xs)
 
-pub row-last : {x : ℤ} {b : List ℕ} {at : ℕ} {b′ : List ℕ} {i : ℕ} → Column x newline b at b′ i → RowOf (x ∷ []) 22 b at b′ i
-row-last {x} c = text-as c by (omega arith)
+pub last-cell : {x : ℤ} {b : List ℕ} {at : ℕ} {b′ : List ℕ} {i : ℕ} → Column x newline b at b′ i → CellsOf (x ∷ []) 22 b at b′ i
+last-cell {x} c = text-as c by (omega arith)
   where
-    by : (u : List ℕ) → Cell x newline u → Row (x ∷ []) u
-    by u (cell w) = row (Columns.one w)
+    by : (u : List ℕ) → Cell x newline u → Cells (x ∷ []) u
+    by u (cell w) = cells (Columns.one w)
 
-pub row-more : {x : ℤ} {xs : List ℤ} {m : ℕ} {b : List ℕ} {at : ℕ} {b₁ b₂ : List ℕ} {i j : ℕ} → at + 22 + m ≤ length b → Column x tab b at b₁ i → RowOf xs m b₁ i b₂ j → RowOf (x ∷ xs) (22 + m) b at b₂ j
-row-more {x} {xs} h c r = text-then c r both h
+pub cell-before : {x : ℤ} {xs : List ℤ} {m : ℕ} {b : List ℕ} {at : ℕ} {b₁ b₂ : List ℕ} {i j : ℕ} → at + 22 + m ≤ length b → Column x tab b at b₁ i → CellsOf xs m b₁ i b₂ j → CellsOf (x ∷ xs) (22 + m) b at b₂ j
+cell-before {x} {xs} h c r = text-then c r both h
   where
-    both : (u v : List ℕ) → Cell x tab u → Row xs v → Row (x ∷ xs) (u ++ v)
-    both u v (cell {u = s} w) (row {t} y) = subst (Row (x ∷ xs)) (parted s t) (row (Columns.more w y))
+    both : (u v : List ℕ) → Cell x tab u → Cells xs v → Cells (x ∷ xs) (u ++ v)
+    both u v (cell {u = s} w) (cells {t} y) = subst (Cells (x ∷ xs)) (parted s t) (cells (Columns.more w y))
       where
         parted : (s t : List ℕ) → (s ++ (tab ∷ t)) ++ (newline ∷ []) ≡ (s ++ (tab ∷ [])) ++ (t ++ (newline ∷ []))
         parted s t = simp append-assoc
 
 -- ---- a line of output
 
-abbrev pub LineOf : Dated → List ℕ → ℕ → List ℕ → ℕ → Type 0
-LineOf a = Text (Ended a) 132
+abbrev pub LineOf : Line → List ℕ → ℕ → List ℕ → ℕ → Type 0
+LineOf l = Text (Ended l) 132
 
-pub date-line : {d : Date} {b : List ℕ} {at : ℕ} {b′ : List ℕ} {i : ℕ} → RowOf (dateColumns d) 132 b at b′ i → LineOf (Dated′.Date d) b at b′ i
-date-line {d} r = text-as r by (omega arith)
+pub row-line : {r : Row} {b : List ℕ} {at : ℕ} {b′ : List ℕ} {i : ℕ} → CellsOf (rowColumns r) 132 b at b′ i → LineOf (Line′.Row r) b at b′ i
+row-line {r} t = text-as t by (omega arith)
   where
-    by : (u : List ℕ) → Row (dateColumns d) u → Ended (Dated′.Date d) u
-    by u (row c) = ended (of-date c)
+    by : (u : List ℕ) → Cells (rowColumns r) u → Ended (Line′.Row r) u
+    by u (cells c) = ended (of-row c)
 
-pub refusal-line : {f : Refusal} {b : List ℕ} {at : ℕ} {b₁ b₂ b₃ : List ℕ} {i j k : ℕ} → at + 68 ≤ length b → So b at (mark ∷ []) b₁ i → So b₁ i (tab ∷ []) b₂ j → RowOf (refusalColumns f) 66 b₂ j b₃ k → LineOf (Dated′.Refused f) b at b₃ k
+pub refusal-line : {f : Refusal} {b : List ℕ} {at : ℕ} {b₁ b₂ b₃ : List ℕ} {i j k : ℕ} → at + 68 ≤ length b → So b at (mark ∷ []) b₁ i → So b₁ i (tab ∷ []) b₂ j → CellsOf (refusalColumns f) 66 b₂ j b₃ k → LineOf (Line′.Refusal f) b at b₃ k
 refusal-line {f} h s t r = text-as (text-then (so-text {P = λ (v : List ℕ). v ≡ mark ∷ (tab ∷ [])} {m = 2} refl (omega arith) (so-on s (tab ∷ []) (omega arith) t)) r both (omega arith)) (λ u p. p) (omega arith)
   where
-    both : (u v : List ℕ) → u ≡ mark ∷ (tab ∷ []) → Row (refusalColumns f) v → Ended (Dated′.Refused f) (u ++ v)
-    both u v e (row c) = subst (λ (y : List ℕ). Ended (Dated′.Refused f) (y ++ v)) (sym e) (ended (of-refusal c))
+    both : (u v : List ℕ) → u ≡ mark ∷ (tab ∷ []) → Cells (refusalColumns f) v → Ended (Line′.Refusal f) (u ++ v)
+    both u v e (cells c) = subst (λ (y : List ℕ). Ended (Line′.Refusal f) (y ++ v)) (sym e) (ended (of-refusal c))
 
 -- ---- the same by equal values
 
 pub column-as : {x y : ℤ} {after : ℕ} {b : List ℕ} {at : ℕ} {b′ : List ℕ} {i : ℕ} → x ≡ y → Column x after b at b′ i → Column y after b at b′ i
 column-as {after = after} {b} {at} {b′} {i} e = subst (λ (z : ℤ). Column z after b at b′ i) e
 
-pub line-as : {a c : Dated} {b : List ℕ} {at : ℕ} {b′ : List ℕ} {i : ℕ} → a ≡ c → LineOf c b at b′ i → LineOf a b at b′ i
-line-as {b = b} {at} {b′} {i} e = subst (λ (d : Dated). LineOf d b at b′ i) (sym e)
+pub line-as : {l k : Line} {b : List ℕ} {at : ℕ} {b′ : List ℕ} {i : ℕ} → l ≡ k → LineOf k b at b′ i → LineOf l b at b′ i
+line-as {b = b} {at} {b′} {i} e = subst (λ (m : Line). LineOf m b at b′ i) (sym e)
 
--- the columns of a date, whose first two are signed
-pub date-row : {d : Date} {x y : ℤ} {w : ℕ} {b : List ℕ} {at : ℕ} {b₁ b₂ b₃ : List ℕ} {i₁ i₂ i₃ : ℕ} → at + 132 ≤ length b → length b ≤ length b₁ → x ≡ d .jdn → y ≡ d .year → w ≡ weekday (d .jdn)
-    → Column x tab b at b₁ i₁ → Column y tab b₁ i₁ b₂ i₂ → RowOf (pos (d .ordinal) ∷ pos (d .month) ∷ pos (d .day) ∷ pos w ∷ []) 88 b₂ i₂ b₃ i₃ → LineOf (Dated′.Date d) b at b₃ i₃
-date-row {d} {b₂ = b₂} {b₃ = b₃} {i₂ = i₂} {i₃ = i₃} h l e f g c₁ c₂ r =
-    date-line {d = d} (row-more {m = 110} (omega arith) (column-as e c₁) (row-more {m = 88} (omega (arith, ends c₁)) (column-as f c₂)
-    (subst (λ (k : ℕ). RowOf (pos (d .ordinal) ∷ pos (d .month) ∷ pos (d .day) ∷ pos k ∷ []) 88 b₂ i₂ b₃ i₃) g r)))
+-- the columns of a day, whose first two are signed
+pub row-columns : {r : Row} {x y : ℤ} {b : List ℕ} {at : ℕ} {b₁ b₂ b₃ : List ℕ} {i₁ i₂ i₃ : ℕ} → at + 132 ≤ length b → length b ≤ length b₁ → x ≡ r .jdn → y ≡ r .year
+    → Column x tab b at b₁ i₁ → Column y tab b₁ i₁ b₂ i₂ → CellsOf (pos (r .ordinal) ∷ pos (r .month) ∷ pos (r .day) ∷ pos (r .weekday) ∷ []) 88 b₂ i₂ b₃ i₃ → LineOf (Line′.Row r) b at b₃ i₃
+row-columns {r} h l e f c₁ c₂ t = row-line {r = r} (cell-before {m = 110} (omega arith) (column-as e c₁) (cell-before {m = 88} (omega (arith, ends c₁)) (column-as f c₂) t))
 
 -- ---- bytes copied into the buffer, one after another
 
@@ -280,8 +277,8 @@ text-wrote h t = wrote (t .is) (omega (arith, t .short)) (t .so)
 -- ---- what the public writers promise
 
 -- a line with its length
-pub lined : {a : Dated} {b : List ℕ} {at : ℕ} {b′ : List ℕ} {i : ℕ} → LineOf a b at b′ i → Text (LineOut a) 132 b at b′ i
-lined {a} t = record { text = t .text; is = record { is = t .is; short = t .short }; short = t .short; so = t .so }
+pub lined : {l : Line} {b : List ℕ} {at : ℕ} {b′ : List ℕ} {i : ℕ} → LineOf l b at b′ i → Text (LineOut l) 132 b at b′ i
+lined t = record { text = t .text; is = record { is = t .is; short = t .short }; short = t .short; so = t .so }
 
 pub copied-to : {t b : List ℕ} {at : ℕ} {b′ : List ℕ} {i : ℕ} → at + length t ≤ length b → So b at t b′ i → Copies t b at b′ (Copied.To i)
 copied-to {t} {b} {at} {b′} {i} h s = subst (λ (x : List ℕ). Copies t b at x (Copied.To i)) (sym (s .is)) (subst (λ (k : ℕ). Copies t b at (put b at t) (Copied.To k)) (sym (s .place)) (copied h))

@@ -1,15 +1,14 @@
--- What is written for an answer: its numbers in columns. And what a writer of it promises.
+-- A line of the listing: the numbers of a day or of a refusal in columns. And what a writer of it promises.
 -- Assumes nothing.
 use Prim.Native.Nat.{ℕ, _+_, _≤_, _<_}
 use mathlib.Core.List.{List, [], _∷_, _++_}
 use lib.ListN.{length}
 use lib.IntN.{ℤ, pos}
-use Rattle.days.specs.DayByDay.{weekday}
-use Rattle.calendar.specs.declared.Date.{Date}
-use Rattle.calendar.specs.declared.Refusal.{Refusal}
-use Rattle.calendar.specs.declared.Dated.{Dated}
-use Rattle.calendar.specs.declared.Dated.the-variants as Dated′
+use Rattle.refusals.specs.declared.Refusal.{Refusal}
 use Rattle.writer.specs.Writing.{WholeDecimal, put}
+use Rattle.linetext.specs.declared.Row.{Row}
+use Rattle.linetext.specs.declared.Line.{Line}
+use Rattle.linetext.specs.declared.Line.the-variants as Line′
 use Rattle.linetext.specs.declared.Copied.{Copied}
 
 abbrev pub newline : ℕ
@@ -27,23 +26,23 @@ pub data Columns : List ℤ → List ℕ → Type 0 where
   one : {x : ℤ} {t : List ℕ} → WholeDecimal t x → Columns (x ∷ []) t
   more : {x : ℤ} {xs : List ℤ} {t u : List ℕ} → WholeDecimal t x → Columns xs u → Columns (x ∷ xs) (t ++ (tab ∷ u))
 
-abbrev pub dateColumns : Date → List ℤ
-dateColumns d = d .jdn ∷ d .year ∷ pos (d .ordinal) ∷ pos (d .month) ∷ pos (d .day) ∷ pos (weekday (d .jdn)) ∷ []
+abbrev pub rowColumns : Row → List ℤ
+rowColumns r = r .jdn ∷ r .year ∷ pos (r .ordinal) ∷ pos (r .month) ∷ pos (r .day) ∷ pos (r .weekday) ∷ []
 
 abbrev pub refusalColumns : Refusal → List ℤ
 refusalColumns f = pos (f .number) ∷ pos (f .place) ∷ f .value ∷ []
 
-pub data LineText : Dated → List ℕ → Type 0 where
-  of-date : {d : Date} {t : List ℕ} → Columns (dateColumns d) t → LineText (Dated′.Date d) t
-  of-refusal : {f : Refusal} {t : List ℕ} → Columns (refusalColumns f) t → LineText (Dated′.Refused f) (mark ∷ (tab ∷ t))
+pub data LineText : Line → List ℕ → Type 0 where
+  of-row : {r : Row} {t : List ℕ} → Columns (rowColumns r) t → LineText (Line′.Row r) t
+  of-refusal : {f : Refusal} {t : List ℕ} → Columns (refusalColumns f) t → LineText (Line′.Refusal f) (mark ∷ (tab ∷ t))
 
 -- with the newline after it
-pub data Ended (a : Dated) : List ℕ → Type 0 where
-  ended : {t : List ℕ} → LineText a t → Ended a (t ++ (newline ∷ []))
+pub data Ended (l : Line) : List ℕ → Type 0 where
+  ended : {t : List ℕ} → LineText l t → Ended l (t ++ (newline ∷ []))
 
 -- which has at most 132 bytes: six columns of at most 20 digits, a sign and the byte after them
-pub record LineOut (a : Dated) (t : List ℕ) : Type 0 where
-  pub is : Ended a t
+pub record LineOut (l : Line) (t : List ℕ) : Type 0 where
+  pub is : Ended l t
   pub short : length t ≤ 132
 
 -- ---- the text t is copied into the buffer b from `at` on, and the answer tells the place after it; or b is too short for it, and is left as it was

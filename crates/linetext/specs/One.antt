@@ -1,30 +1,30 @@
--- An answer has one line, and two results that a promise allows for one input are equal.
+-- A line has one text, and two results that a promise allows for one input are equal.
 -- Assumes nothing.
 use Prim.Native.Nat.{ℕ}
 use mathlib.Core.Path.{_≡_, refl, ap, ap₂, subst}
 use mathlib.Core.List.{List, [], _∷_, _++_}
 use native.Mathlib.Omega.{arith}
 use lib.IntN.{ℤ}
-use Rattle.calendar.specs.declared.Dated.{Dated}
 use Rattle.writer.specs.Writing.{Writes}
 use Rattle.writer.specs.Decimals.{whole-one}
 use Rattle.writer.specs.Theorems.{writes-one}
 use Rattle.writer.specs.declared.Written.{Written}
-use Rattle.linetext.specs.Line.{newline, tab, mark, Columns, LineText, of-date, of-refusal, Ended, ended, LineOut, Copies, copied, no-room}
+use Rattle.linetext.specs.Line.{newline, tab, mark, Columns, LineText, of-row, of-refusal, Ended, ended, LineOut, Copies, copied, no-room}
+use Rattle.linetext.specs.declared.Line.{Line}
 use Rattle.linetext.specs.declared.Copied.{Copied}
 
 columns-one : {xs : List ℤ} {t u : List ℕ} → Columns xs t → Columns xs u → t ≡ u
 columns-one (Columns.one w) (Columns.one v) = whole-one w v
 columns-one (Columns.more w c) (Columns.more v d) = ap₂ (λ (t u : List ℕ). t ++ (tab ∷ u)) (whole-one w v) (columns-one c d)
 
-line-text-one : {a : Dated} {t u : List ℕ} → LineText a t → LineText a u → t ≡ u
-line-text-one (of-date c) (of-date d) = columns-one c d
+line-text-one : {l : Line} {t u : List ℕ} → LineText l t → LineText l u → t ≡ u
+line-text-one (of-row c) (of-row d) = columns-one c d
 line-text-one (of-refusal c) (of-refusal d) = ap (λ (t : List ℕ). mark ∷ (tab ∷ t)) (columns-one c d)
 
-pub ended-one : {a : Dated} {t u : List ℕ} → Ended a t → Ended a u → t ≡ u
+pub ended-one : {l : Line} {t u : List ℕ} → Ended l t → Ended l u → t ≡ u
 ended-one (ended x) (ended y) = ap (λ (t : List ℕ). t ++ (newline ∷ [])) (line-text-one x y)
 
-pub put-line-one : {a : Dated} {b b₁ b₂ : List ℕ} {at : ℕ} {r₁ r₂ : Written} → Writes (LineOut a) b at b₁ r₁ → Writes (LineOut a) b at b₂ r₂ → (b₁ ≡ b₂) × (r₁ ≡ r₂)
+pub put-line-one : {l : Line} {b b₁ b₂ : List ℕ} {at : ℕ} {r₁ r₂ : Written} → Writes (LineOut l) b at b₁ r₁ → Writes (LineOut l) b at b₂ r₂ → (b₁ ≡ b₂) × (r₁ ≡ r₂)
 put-line-one = writes-one (λ t u x y. ended-one (x .is) (y .is))
 
 pub copy-text-one : {t b b₁ b₂ : List ℕ} {at : ℕ} {r₁ r₂ : Copied} → Copies t b at b₁ r₁ → Copies t b at b₂ r₂ → (b₁ ≡ b₂) × (r₁ ≡ r₂)

@@ -1,4 +1,4 @@
-// A line of the listing: the numbers of a date or of a refusal in columns, written into a lent buffer. Each public call writes its text and
+// A line of the listing: the numbers of a day or of a refusal in columns, written into a lent buffer. Each public call writes its text and
 // tells the place after it, or says that it has no room and leaves the buffer as it was.
 
 ghost use mathlib.Core.Path.{_≡_};
@@ -10,14 +10,27 @@ ghost use lib.IntN.{pos};
 ghost use Rattle.writer.specs.Writing.{Writes};
 ghost use Rattle.writer.specs.Decimals.{digitsOf};
 ghost use Rattle.writer.specs.Puts.{So, Signs};
-ghost use Rattle.calendar.specs.declared.Dated.the-variants.{Date as OfDate, Refused};
+ghost use Rattle.linetext.specs.declared.Line.the-variants.{Row as OfRow, Refusal as OfRefusal};
 ghost use Rattle.linetext.specs.Line.{LineOut, Copies};
-ghost use Rattle.linetext.specs.Laws.{Text, Column, RowOf, LineOf};
-use calendar::Date;
-use calendar::Dated;
-use calendar::Refusal;
-use calendar::Weekday;
+ghost use Rattle.linetext.specs.Laws.{Text, Column, CellsOf, LineOf};
+use refusals::Refusal;
 use writer::Written;
+
+// The columns of a day, whatever numbers they are: that they are those of one day is said where they come from.
+pub struct Row {
+    pub jdn: i64,
+    pub year: i64,
+    pub ordinal: u64,
+    pub month: u64,
+    pub day: u64,
+    pub weekday: u64,
+}
+
+// What stands in a line.
+pub enum Line {
+    Row(Row),
+    Refusal(Refusal),
+}
 
 // ---- numbers in columns. Each function writes from `at` on, and answers the place after what it wrote.
 
@@ -152,37 +165,29 @@ fn put_whole(out: &mut [u8], at: usize, x: i64, after: u8) -> usize
 
 // ---- a line of output, with its newline
 
-fn put_int(out: &mut [u8], at: usize, x: i32, after: u8) -> usize
-    requires { ⌜ at + 22 ≤ length (now out) ⌝ }
-    ensures { λ r. ⌜ Column x after (now (out .entry)) at (now (out .exit)) r ⌝ }
-{
-    put_whole(out, at, whole::widened(x), after)
-}
-
-// The last four columns of a date.
-fn put_place(out: &mut [u8], at: usize, ordinal: u32, month: u32, day: u32, weekday: u32) -> usize
+// The last four columns of a day.
+fn put_place(out: &mut [u8], at: usize, ordinal: u64, month: u64, day: u64, weekday: u64) -> usize
     requires { ⌜ at + 88 ≤ length (now out) ⌝ }
-    ensures { λ r. ⌜ RowOf (pos ordinal ∷ pos month ∷ pos day ∷ pos weekday ∷ []) 88 (now (out .entry)) at (now (out .exit)) r ⌝ }
+    ensures { λ r. ⌜ CellsOf (pos ordinal ∷ pos month ∷ pos day ∷ pos weekday ∷ []) 88 (now (out .entry)) at (now (out .exit)) r ⌝ }
 {
-    let second = put_count(out, at, ordinal as u64, 9);
-    let third = put_count(out, second, month as u64, 9);
-    let fourth = put_count(out, third, day as u64, 9);
-    put_count(out, fourth, weekday as u64, 10)
+    let second = put_count(out, at, ordinal, 9);
+    let third = put_count(out, second, month, 9);
+    let fourth = put_count(out, third, day, 9);
+    put_count(out, fourth, weekday, 10)
 }
 
-fn put_date(out: &mut [u8], at: usize, date: Date) -> usize
+fn put_row(out: &mut [u8], at: usize, row: Row) -> usize
     requires { ⌜ at + 132 ≤ length (now out) ⌝ }
-    ensures { λ r. ⌜ LineOf (OfDate date) (now (out .entry)) at (now (out .exit)) r ⌝ }
+    ensures { λ r. ⌜ LineOf (OfRow row) (now (out .entry)) at (now (out .exit)) r ⌝ }
 {
-    let weekday = Weekday::for_jdn(date.jdn);
-    let second = put_int(out, at, date.jdn, 9);
-    let third = put_int(out, second, date.year, 9);
-    put_place(out, third, date.ordinal, date.month, date.day, weekday)
+    let second = put_whole(out, at, row.jdn, 9);
+    let third = put_whole(out, second, row.year, 9);
+    put_place(out, third, row.ordinal, row.month, row.day, row.weekday)
 }
 
 fn put_refusal(out: &mut [u8], at: usize, why: Refusal) -> usize
     requires { ⌜ at + 132 ≤ length (now out) ⌝ }
-    ensures { λ r. ⌜ LineOf (Refused why) (now (out .entry)) at (now (out .exit)) r ⌝ }
+    ensures { λ r. ⌜ LineOf (OfRefusal why) (now (out .entry)) at (now (out .exit)) r ⌝ }
 {
     let mark = put_byte(out, at, 33);
     let number = put_byte(out, mark, 9);
@@ -191,13 +196,13 @@ fn put_refusal(out: &mut [u8], at: usize, why: Refusal) -> usize
     put_whole(out, value, why.value, 10)
 }
 
-fn put_answer(out: &mut [u8], at: usize, answer: Dated) -> usize
+fn put_either(out: &mut [u8], at: usize, line: Line) -> usize
     requires { ⌜ at + 132 ≤ length (now out) ⌝ }
-    ensures { λ r. ⌜ LineOf answer (now (out .entry)) at (now (out .exit)) r ⌝ }
+    ensures { λ r. ⌜ LineOf line (now (out .entry)) at (now (out .exit)) r ⌝ }
 {
-    match answer {
-        Dated::Date(date) => put_date(out, at, date),
-        Dated::Refused(why) => put_refusal(out, at, why),
+    match line {
+        Line::Row(row) => put_row(out, at, row),
+        Line::Refusal(why) => put_refusal(out, at, why),
     }
 }
 
@@ -217,11 +222,11 @@ fn put_bytes(out: &mut [u8], at: usize, text: &[u8]) -> usize
 }
 
 // Where room is not sure, the text is made apart first, so that a buffer too short for it stays as it was.
-fn put_apart(out: &mut [u8], at: usize, answer: Dated) -> Written
-    ensures { λ r. ⌜ Writes (LineOut answer) (now (out .entry)) at (now (out .exit)) r ⌝ }
+fn put_apart(out: &mut [u8], at: usize, line: Line) -> Written
+    ensures { λ r. ⌜ Writes (LineOut line) (now (out .entry)) at (now (out .exit)) r ⌝ }
 {
     let mut apart = [0u8; 132];
-    let size = put_answer(&mut apart, 0, answer);
+    let size = put_either(&mut apart, 0, line);
     if writer::has_room(out.len(), at, size) {
         let end = put_bytes(out, at, &apart[..size]);
         return Written::Done(end);
@@ -229,15 +234,15 @@ fn put_apart(out: &mut [u8], at: usize, answer: Dated) -> Written
     Written::Refused(numbertext::refusal(18, 0, size as u32))
 }
 
-// The line of an answer, with its newline.
-pub fn put_line(out: &mut [u8], at: usize, answer: Dated) -> Written
-    ensures { λ r. ⌜ Writes (LineOut answer) (now (out .entry)) at (now (out .exit)) r ⌝ }
+// The line, with its newline.
+pub fn put_line(out: &mut [u8], at: usize, line: Line) -> Written
+    ensures { λ r. ⌜ Writes (LineOut line) (now (out .entry)) at (now (out .exit)) r ⌝ }
 {
     if writer::has_room(out.len(), at, 132) {
-        let end = put_answer(out, at, answer);
+        let end = put_either(out, at, line);
         return Written::Done(end);
     }
-    put_apart(out, at, answer)
+    put_apart(out, at, line)
 }
 
 // Whether a text had room.

@@ -16,9 +16,11 @@ use Rattle.calendar.specs.Rows.{refuses}
 use Rattle.calendar.specs.declared.Dated.{Dated}
 use Rattle.writer.specs.Writing.{put}
 use Rattle.writer.specs.Puts.{put-none, put-then, length-put}
-use Rattle.listing.specs.Lines.{header, Without, Lines, LineAnswer, Listed, listed, AllListed, Listing, listing}
+use Rattle.entry.specs.Entry.{Without, LineAnswer}
+use Rattle.entry.specs.Laws.{without-both}
 use Rattle.linetext.specs.Line.{newline}
-use Rattle.listing.specs.Blocks.{without-both, Fills, HeldAnswer, HeldLine, LastLine, Stand, stand, Turn, Lists}
+use Rattle.listing.specs.Lines.{header, Lines, Listed, listed, AllListed, Listing, listing}
+use Rattle.listing.specs.Blocks.{Fills, HeldAnswer, HeldLine, LastLine, Stand, stand, Turn, Lists}
 use Rattle.listing.specs.One.{listing-one}
 
 -- ---- the lines that end in the bytes s, where p was unfinished before them, and what is unfinished after them

@@ -5,85 +5,47 @@ ghost use mathlib.Core.Path.{_≡_};
 ghost use Prim.Native.Nat.{_+_, _<_, _≤_};
 ghost use lib.ListN.{length, take};
 ghost use Rattle.writer.specs.Writing.{Writes};
-ghost use Rattle.listing.specs.Lines.{header, LineAnswer, Listed};
-ghost use Rattle.listing.specs.Blocks.{UpTo, TextFrom, Fills, HeldAnswer, HeldLine, Wrote, LastLine, stand, Turn, Lists};
+ghost use Rattle.entry.specs.Entry.{LineAnswer};
+ghost use Rattle.listing.specs.Lines.{header, rowOf, lineOf, Listed};
+ghost use Rattle.listing.specs.Blocks.{Fills, HeldAs, HeldLine, Wrote, LastLine, stand, Turn, Lists};
+use calendar::Date;
 use calendar::Dated;
-use calendar::Reformed;
+use calendar::Weekday;
 use linetext::Copied;
+use linetext::Line;
+use linetext::Row;
 use writer::Written;
 
-// ---- the answer to a line
+// ---- what is written for a line
 
-// The place of the first `b` from `from` on, or of the end.
-fn next_to(s: &[u8], from: usize, b: u8) -> usize
-    requires { ⌜ from ≤ length (now s) ⌝ }
-    ensures { λ r. ⌜ (UpTo b (now (s .entry)) from r) × (from ≤ r) × (r ≤ length (now (s .entry))) ⌝ }
+fn row_of(date: Date) -> Row
+    ensures { λ r. ⌜ r ≡ rowOf date ⌝ }
 {
-    let mut i = from;
-    while i < s.len() {
-        if s[i] == b {
-            return i;
-        }
-        i += 1;
-    }
-    i
-}
-
-// The same, four bytes at a turn: every byte of the input is looked at here, and that is a good part of the listing's work.
-fn up_to(s: &[u8], from: usize, b: u8) -> usize
-    requires { ⌜ from ≤ length (now s) ⌝ }
-    ensures { λ r. ⌜ (UpTo b (now (s .entry)) from r) × (from ≤ r) × (r ≤ length (now (s .entry))) ⌝ }
-{
-    let mut i = from;
-    while 4 <= s.len() - i {
-        if s[i] == b {
-            return i;
-        }
-        if s[i + 1] == b {
-            return i + 1;
-        }
-        if s[i + 2] == b {
-            return i + 2;
-        }
-        if s[i + 3] == b {
-            return i + 3;
-        }
-        i += 4;
-    }
-    next_to(s, i, b)
-}
-
-// Where the text of a line begins: after the tab, or at the line's end.
-fn text_from(len: usize, tab: usize) -> usize
-    requires { ⌜ tab ≤ len ⌝ }
-    ensures { λ r. ⌜ (TextFrom len tab r) × (r ≤ len) ⌝ }
-{
-    if tab < len {
-        return tab + 1;
-    }
-    tab
-}
-
-// The day that a line names, or why it names none.
-pub fn line_answer(line: &[u8]) -> Dated
-    ensures { λ a. ⌜ LineAnswer (now (line .entry)) a ⌝ }
-{
-    if 512 < line.len() {
-        return Dated::Refused(calendar::refusal_of(20, 0));
-    }
-    let tab = up_to(line, 0, 9);
-    let text = text_from(line.len(), tab);
-    match ncal::named(&line[..tab]) {
-        Reformed::Refused(why) => Dated::Refused(why),
-        Reformed::Calendar(calendar) => dateparse::parse_date(calendar, &line[text..]),
+    let weekday = Weekday::for_jdn(date.jdn);
+    Row {
+        jdn: whole::widened(date.jdn),
+        year: whole::widened(date.year),
+        ordinal: date.ordinal as u64,
+        month: date.month as u64,
+        day: date.day as u64,
+        weekday: weekday as u64,
     }
 }
 
-// What is written for a line, with its newline.
+fn line_of(answer: Dated) -> Line
+    ensures { λ l. ⌜ l ≡ lineOf answer ⌝ }
+{
+    match answer {
+        Dated::Date(date) => Line::Row(row_of(date)),
+        Dated::Refused(why) => Line::Refusal(why),
+    }
+}
+
+// The text of its answer, with a newline.
 pub fn list_line(line: &[u8], out: &mut [u8], at: usize) -> Written
     ensures { λ r. ⌜ Writes (Listed (now (line .entry))) (now (out .entry)) at (now (out .exit)) r ⌝ }
 {
-    linetext::put_line(out, at, line_answer(line))
+    linetext::put_line(out, at, line_of(entry::line_answer(line)))
 }
 
 const HEADER: [u8; 35] = *b"jdn\tyear\tordinal\tmonth\tday\tweekday\n";
@@ -120,16 +82,16 @@ fn front_answer(line: &[u8], held: usize) -> Dated
     requires { ⌜ held ≤ length (now line) ⌝ }
     ensures { λ a. ⌜ LineAnswer (take held (now (line .entry))) a ⌝ }
 {
-    line_answer(&line[..held])
+    entry::line_answer(&line[..held])
 }
 
-fn held_answer(line: &[u8; 512], held: usize) -> Dated
-    ensures { λ a. ⌜ HeldAnswer (now (line .entry)) held a ⌝ }
+fn held_line(line: &[u8; 512], held: usize) -> Line
+    ensures { λ l. ⌜ HeldAs (now (line .entry)) held l ⌝ }
 {
     if held <= 512 {
-        return front_answer(line, held);
+        return line_of(front_answer(line, held));
     }
-    Dated::Refused(calendar::refusal_of(20, 0))
+    Line::Refusal(calendar::refusal_of(20, 0))
 }
 
 // What is written for the line that is held, where there is room for it.
@@ -137,7 +99,7 @@ fn put_held(line: &[u8; 512], held: usize, out: &mut [u8], at: usize) -> usize
     requires { ⌜ at + 132 ≤ length (now out) ⌝ }
     ensures { λ r. ⌜ Wrote (HeldLine (now (line .entry)) held) (now (out .entry)) at (now (out .exit)) r ⌝ }
 {
-    match linetext::put_line(out, at, held_answer(line, held)) {
+    match linetext::put_line(out, at, held_line(line, held)) {
         Written::Done(next) => next,
         Written::Refused(_) => at,
     }
@@ -155,7 +117,7 @@ fn turn(
     requires { ⌜ (at < length (now block)) × (used + 132 ≤ length (now out)) ⌝ }
     ensures { λ p. ⌜ Turn (now (block .entry)) (stand at (now (line .entry)) held (now (out .entry)) used) (stand (p .at) (now (line .exit)) (p .held) (now (out .exit)) (p .used)) ⌝ }
 {
-    let end = up_to(block, at, 10);
+    let end = entry::up_to(block, at, 10);
     let n = fill(line, held, &block[at..end]);
     if end < block.len() {
         let next = put_held(line, n, out, used);
@@ -212,7 +174,7 @@ pub fn list_last(line: &[u8; 512], held: usize, out: &mut [u8], at: usize) -> Wr
     ensures { λ r. ⌜ Writes (LastLine (now (line .entry)) held) (now (out .entry)) at (now (out .exit)) r ⌝ }
 {
     if 0 < held {
-        return linetext::put_line(out, at, held_answer(line, held));
+        return linetext::put_line(out, at, held_line(line, held));
     }
     if writer::has_room(out.len(), at, 0) {
         return Written::Done(at);

@@ -10,14 +10,14 @@ use Rattle.linetext.proofs.put_line.Tie as tie
 has-room-requires : tie.Need-has-room-requires
 has-room-requires c κs = search needs
 
-put-answer-requires : tie.Need-put-answer-requires
-put-answer-requires c κs = leb-true _ _ (sym (c .before .before .has-room .ensures) ∙ c .before .if1 .taken)
+put-either-requires : tie.Need-put-either-requires
+put-either-requires c κs = leb-true _ _ (sym (c .before .before .has-room .ensures) ∙ c .before .if1 .taken)
 
 same-length : tie.Need-same-length
 same-length c = search needs
 
 returns : tie.Need-returns
-returns c = text-wrote (leb-true _ _ (sym (c .before .before .before .before .before .has-room .ensures) ∙ c .before .before .before .before .if1 .taken)) (lined (c .before .before .put-answer .ensures))
+returns c = text-wrote (leb-true _ _ (sym (c .before .before .before .before .before .has-room .ensures) ∙ c .before .before .before .before .if1 .taken)) (lined (c .before .before .put-either .ensures))
 
 put-apart-requires : tie.Need-put-apart-requires
 put-apart-requires c κs = search needs
@@ -33,7 +33,7 @@ put-line-spec =
     tie.close
     (tie.spec
     has-room-requires
-    put-answer-requires
+    put-either-requires
     same-length
     returns
     put-apart-requires

@@ -1,6 +1,6 @@
 -- `linetext::put_place` meets its contract: four columns, joined from the last one on.
 -- Assumes nothing.
-use Rattle.linetext.specs.Laws.{row-last, row-more, ends}
+use Rattle.linetext.specs.Laws.{last-cell, cell-before, ends}
 use native.Mathlib.Omega.{arith}
 use borrow.Author.Needs.{needs}
 use Rattle.linetext.proofs.put_place.Statement.{statement}
@@ -23,7 +23,7 @@ same-length c = search needs
 
 returns : tie.Need-returns
 returns c =
-    row-more (omega arith) (c .before .before .before .before .before .before .before .before .before .before .before .before .before .before .put-count .ensures) (row-more (omega (arith, ends (c .before .before .before .before .before .before .before .before .before .before .before .before .before .before .put-count .ensures), c .before .before .before .before .before .before .before .before .before .before .before .before .before .before .put-count .kept .0)) (c .before .before .before .before .before .before .before .before .before .before .put-count2 .ensures) (row-more (omega (arith, ends (c .before .before .before .before .before .before .before .before .before .before .before .before .before .before .put-count .ensures), c .before .before .before .before .before .before .before .before .before .before .before .before .before .before .put-count .kept .0, ends (c .before .before .before .before .before .before .before .before .before .before .put-count2 .ensures), c .before .before .before .before .before .before .before .before .before .before .put-count2 .kept .0)) (c .before .before .before .before .before .before .put-count3 .ensures) (row-last (c .before .before .put-count4 .ensures))))
+    cell-before (omega arith) (c .before .before .before .before .before .before .before .before .before .before .before .before .before .before .put-count .ensures) (cell-before (omega (arith, ends (c .before .before .before .before .before .before .before .before .before .before .before .before .before .before .put-count .ensures), c .before .before .before .before .before .before .before .before .before .before .before .before .before .before .put-count .kept .0)) (c .before .before .before .before .before .before .before .before .before .before .put-count2 .ensures) (cell-before (omega (arith, ends (c .before .before .before .before .before .before .before .before .before .before .before .before .before .before .put-count .ensures), c .before .before .before .before .before .before .before .before .before .before .before .before .before .before .put-count .kept .0, ends (c .before .before .before .before .before .before .before .before .before .before .put-count2 .ensures), c .before .before .before .before .before .before .before .before .before .before .put-count2 .kept .0)) (c .before .before .before .before .before .before .put-count3 .ensures) (last-cell (c .before .before .put-count4 .ensures))))
 
 pub put-place-spec : {M : Type 1} → statement M
 put-place-spec =

@@ -2,7 +2,7 @@
 -- Assumes nothing.
 use mir.Facts.{toZ-ofZ}
 use borrow.Author.Needs.{needs, sfits-of}
-use Rattle.linetext.specs.Laws.{row-last, row-more, ends, refusal-line}
+use Rattle.linetext.specs.Laws.{last-cell, cell-before, ends, refusal-line}
 use native.Mathlib.Omega.{arith}
 use Rattle.linetext.proofs.put_refusal.Statement.{statement}
 use Rattle.linetext.proofs.put_refusal.Tie as tie
@@ -31,7 +31,7 @@ same-length c = search needs
 returns : tie.Need-returns
 returns c =
     let last = rw (toZ-ofZ (sfits-of (c .before .before .before .struct-told .given .1 .1 .0 .1))) at (c .before .before .put-whole .ensures) in
-    refusal-line (omega arith) (c .before .before .before .before .before .before .before .before .before .before .before .before .before .before .before .before .before .before .before .before .put-byte .ensures) (c .before .before .before .before .before .before .before .before .before .before .before .before .before .before .before .before .put-byte2 .ensures) (row-more (omega (arith, c .before .before .before .before .before .before .before .before .before .before .before .before .before .before .before .before .before .before .before .before .put-byte .ensures .place, c .before .before .before .before .before .before .before .before .before .before .before .before .before .before .before .before .before .before .before .before .put-byte .kept .0, c .before .before .before .before .before .before .before .before .before .before .before .before .before .before .before .before .put-byte2 .ensures .place, c .before .before .before .before .before .before .before .before .before .before .before .before .before .before .before .before .put-byte2 .kept .0)) (c .before .before .before .before .before .before .before .before .before .before .before .put-count .ensures) (row-more (omega (arith, c .before .before .before .before .before .before .before .before .before .before .before .before .before .before .before .before .before .before .before .before .put-byte .ensures .place, c .before .before .before .before .before .before .before .before .before .before .before .before .before .before .before .before .before .before .before .before .put-byte .kept .0, c .before .before .before .before .before .before .before .before .before .before .before .before .before .before .before .before .put-byte2 .ensures .place, c .before .before .before .before .before .before .before .before .before .before .before .before .before .before .before .before .put-byte2 .kept .0, ends (c .before .before .before .before .before .before .before .before .before .before .before .put-count .ensures), c .before .before .before .before .before .before .before .before .before .before .before .put-count .kept .0)) (c .before .before .before .before .before .before .before .put-count2 .ensures) (row-last last)))
+    refusal-line (omega arith) (c .before .before .before .before .before .before .before .before .before .before .before .before .before .before .before .before .before .before .before .before .put-byte .ensures) (c .before .before .before .before .before .before .before .before .before .before .before .before .before .before .before .before .put-byte2 .ensures) (cell-before (omega (arith, c .before .before .before .before .before .before .before .before .before .before .before .before .before .before .before .before .before .before .before .before .put-byte .ensures .place, c .before .before .before .before .before .before .before .before .before .before .before .before .before .before .before .before .before .before .before .before .put-byte .kept .0, c .before .before .before .before .before .before .before .before .before .before .before .before .before .before .before .before .put-byte2 .ensures .place, c .before .before .before .before .before .before .before .before .before .before .before .before .before .before .before .before .put-byte2 .kept .0)) (c .before .before .before .before .before .before .before .before .before .before .before .put-count .ensures) (cell-before (omega (arith, c .before .before .before .before .before .before .before .before .before .before .before .before .before .before .before .before .before .before .before .before .put-byte .ensures .place, c .before .before .before .before .before .before .before .before .before .before .before .before .before .before .before .before .before .before .before .before .put-byte .kept .0, c .before .before .before .before .before .before .before .before .before .before .before .before .before .before .before .before .put-byte2 .ensures .place, c .before .before .before .before .before .before .before .before .before .before .before .before .before .before .before .before .put-byte2 .kept .0, ends (c .before .before .before .before .before .before .before .before .before .before .before .put-count .ensures), c .before .before .before .before .before .before .before .before .before .before .before .put-count .kept .0)) (c .before .before .before .before .before .before .before .put-count2 .ensures) (last-cell last)))
 
 pub put-refusal-spec : {M : Type 1} → statement M
 put-refusal-spec =

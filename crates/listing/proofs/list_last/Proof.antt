@@ -7,8 +7,8 @@ use borrow.Author.Needs.{needs}
 use Rattle.listing.proofs.list_last.Statement.{statement}
 use Rattle.listing.proofs.list_last.Tie as tie
 
-held-answer-requires : tie.Need-held-answer-requires
-held-answer-requires c κs = search needs
+held-line-requires : tie.Need-held-line-requires
+held-line-requires c κs = search needs
 
 put-line-requires : tie.Need-put-line-requires
 put-line-requires c κs = search needs
@@ -17,7 +17,7 @@ same-length : tie.Need-same-length
 same-length c = search needs
 
 returns : tie.Need-returns
-returns c = last-held (c .before .before .before .before .before .if1 .taken) (c .before .before .before .held-answer .ensures) (c .before .before .put-line .ensures)
+returns c = last-held (c .before .before .before .before .before .if1 .taken) (c .before .before .before .held-line .ensures) (c .before .before .put-line .ensures)
 
 has-room-requires : tie.Need-has-room-requires
 has-room-requires c κs = search needs
@@ -35,7 +35,7 @@ pub list-last-spec : {M : Type 1} → statement M
 list-last-spec =
     tie.close
     (tie.spec
-    held-answer-requires
+    held-line-requires
     put-line-requires
     same-length
     returns

@@ -5,8 +5,8 @@ use borrow.Author.Needs.{needs}
 use Rattle.listing.proofs.put_held.Statement.{statement}
 use Rattle.listing.proofs.put_held.Tie as tie
 
-held-answer-requires : tie.Need-held-answer-requires
-held-answer-requires c κs = search needs
+held-line-requires : tie.Need-held-line-requires
+held-line-requires c κs = search needs
 
 put-line-requires : tie.Need-put-line-requires
 put-line-requires c κs = search needs
@@ -21,19 +21,19 @@ same-length : tie.Need-same-length
 same-length c = search needs
 
 returns : tie.Need-returns
-returns c = held-wrote (c .before .before .before .before .before .before .held-answer .ensures) (rw (c .before .next .given .1) at (c .before .before .before .before .before .put-line .ensures))
+returns c = held-wrote (c .before .before .before .before .before .before .held-line .ensures) (rw (c .before .next .given .1) at (c .before .before .before .before .before .put-line .ensures))
 
 same-length-2 : tie.Need-same-length-2
 same-length-2 c = search needs
 
 returns-2 : tie.Need-returns-2
-returns-2 c = absurd (held-room (c .before .before .before .before .before .held-answer .ensures) (c .before .before .before .before .before .before .before .before .pre) (rw (c .enum-told .given .1) at (c .before .before .before .before .put-line .ensures)))
+returns-2 c = absurd (held-room (c .before .before .before .before .before .before .before .before .pre) (rw (c .enum-told .given .1) at (c .before .before .before .before .put-line .ensures)))
 
 pub put-held-spec : {M : Type 1} → statement M
 put-held-spec =
     tie.close
     (tie.spec
-    held-answer-requires
+    held-line-requires
     put-line-requires
     enum-known-next
     enum-told

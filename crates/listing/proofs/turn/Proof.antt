@@ -1,6 +1,7 @@
 -- `listing::turn` meets its contract: the line ends in the block, or the block in the line.
 -- Assumes nothing.
 use Rattle.listing.specs.Blocks.{turn-rest, turn-line}
+use Rattle.entry.specs.Laws.{up-to-inside}
 use native.Mathlib.Omega.{arith}
 use borrow.Author.Needs.{needs}
 use Rattle.listing.proofs.turn.Statement.{statement}
@@ -10,13 +11,17 @@ up-to-requires : tie.Need-up-to-requires
 up-to-requires c κs = search needs
 
 sub-fill : tie.Need-sub-fill
-sub-fill c = search needs
+sub-fill c = up-to-inside (c .before .up-to .ensures) (omega (arith, c .before .before .before .before .pre .0)) .0
 
 part-fill-start : tie.Need-part-fill-start
-part-fill-start c = search needs
+part-fill-start c =
+    let i = up-to-inside (c .before .up-to .ensures) (omega (arith, c .before .before .before .before .pre .0)) in
+    omega (arith, i .0, i .1)
 
 part-fill-end : tie.Need-part-fill-end
-part-fill-end c = search needs
+part-fill-end c =
+    let i = up-to-inside (c .before .up-to .ensures) (omega (arith, c .before .before .before .before .pre .0)) in
+    omega (arith, i .0, i .1)
 
 fill-requires : tie.Need-fill-requires
 fill-requires c κs = search needs
@@ -31,10 +36,10 @@ same-length : tie.Need-same-length
 same-length c = search needs
 
 returns : tie.Need-returns
-returns c = turn-line (c .before .before .before .before .before .before .fill .ensures) (c .before .before .before .before .before .before .before .before .before .up-to .ensures .0) (c .before .before .before .before .before .if1 .taken) (omega (arith, c .before .before .before .before .before .before .before .before .before .before .before .before .pre .0)) (c .before .before .put-held .ensures)
+returns c = turn-line (c .before .before .before .before .before .before .fill .ensures) (c .before .before .before .before .before .before .before .before .before .up-to .ensures) (c .before .before .before .before .before .if1 .taken) (omega (arith, c .before .before .before .before .before .before .before .before .before .before .before .before .pre .0)) (c .before .before .put-held .ensures)
 
 returns-2 : tie.Need-returns-2
-returns-2 c = turn-rest (c .before .fill .ensures) (c .before .before .before .before .up-to .ensures .0) (c .if1 .left) (c .before .before .before .before .before .before .before .pre .0)
+returns-2 c = turn-rest (c .before .fill .ensures) (c .before .before .before .before .up-to .ensures) (c .if1 .left) (c .before .before .before .before .before .before .before .pre .0)
 
 pub turn-spec : {M : Type 1} → statement M
 turn-spec =

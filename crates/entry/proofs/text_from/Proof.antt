@@ -1,11 +1,11 @@
--- `listing::text_from` meets its contract.
+-- `entry::text_from` meets its contract.
 -- Assumes nothing.
-use Rattle.listing.specs.Blocks.{TextFrom}
+use Rattle.entry.specs.Laws.{TextFrom}
 use mathlib.Core.Path.{refl}
 use native.Mathlib.Omega.{arith}
 use borrow.Author.Needs.{needs}
-use Rattle.listing.proofs.text_from.Statement.{statement}
-use Rattle.listing.proofs.text_from.Tie as tie
+use Rattle.entry.proofs.text_from.Statement.{statement}
+use Rattle.entry.proofs.text_from.Tie as tie
 
 add-result : tie.Need-add-result
 add-result c = search needs

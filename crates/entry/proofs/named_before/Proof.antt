@@ -1,0 +1,19 @@
+-- `entry::named_before` meets its contract.
+-- Assumes nothing.
+use lib.Seq.{length-take-le}
+use mathlib.Core.Path.{sym}
+use borrow.Author.Needs.{needs}
+use Rattle.entry.proofs.named_before.Statement.{statement}
+use Rattle.entry.proofs.named_before.Tie as tie
+
+slice-aggregate-named : tie.Need-slice-aggregate-named
+slice-aggregate-named c = sym (length-take-le _ _ (c .before .before .pre))
+
+named-requires : tie.Need-named-requires
+named-requires c κs = search needs
+
+returns : tie.Need-returns
+returns c = search needs
+
+pub named-before-spec : {M : Type 1} → statement M
+named-before-spec = tie.close (tie.spec slice-aggregate-named named-requires returns)

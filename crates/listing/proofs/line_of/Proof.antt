@@ -1,0 +1,27 @@
+-- `listing::line_of` meets its contract.
+-- Assumes nothing.
+use Rattle.listing.specs.Lines.{lineOf}
+use mathlib.Core.Path.{sym, _∙_, ap}
+use Rattle.linetext.specs.declared.Line.the-variants as Line′
+use borrow.Author.Needs.{needs}
+use Rattle.listing.proofs.line_of.Statement.{statement}
+use Rattle.listing.proofs.line_of.Tie as tie
+
+enum-known-answer : tie.Need-enum-known-answer
+enum-known-answer c = search needs
+
+row-of-requires : tie.Need-row-of-requires
+row-of-requires c κs = search needs
+
+enum-known-answer-2 : tie.Need-enum-known-answer-2
+enum-known-answer-2 c = search needs
+
+returns : tie.Need-returns
+returns c = ap Line′.Row (c .row-of .ensures) ∙ sym (ap lineOf (c .before .before .answer .given .1))
+
+returns-2 : tie.Need-returns-2
+returns-2 c = sym (ap lineOf (c .before .answer2 .given .1))
+
+pub line-of-spec : {M : Type 1} → statement M
+line-of-spec =
+    tie.close (tie.spec enum-known-answer row-of-requires enum-known-answer-2 returns returns-2)

@@ -1,0 +1,50 @@
+-- `listing::row_of` meets its contract: each column is the number of that name, and the weekday that of the day number.
+-- Assumes nothing.
+use Rattle.listing.specs.Blocks.{row-is}
+use Rattle.days.specs.DayByDay.{weekday}
+use mathlib.Core.Path.{ap, _∙_}
+use mir.Facts.{toZ-ofZ}
+use borrow.Author.Needs.{needs, sfits-of}
+use Rattle.listing.proofs.row_of.Statement.{statement}
+use Rattle.listing.proofs.row_of.Tie as tie
+
+for-jdn-requires : tie.Need-for-jdn-requires
+for-jdn-requires c κs = search needs
+
+widened-requires : tie.Need-widened-requires
+widened-requires c κs = search needs
+
+widened-requires-2 : tie.Need-widened-requires-2
+widened-requires-2 c κs = search needs
+
+cast-t5 : tie.Need-cast-t5
+cast-t5 c = search needs
+
+cast-t6 : tie.Need-cast-t6
+cast-t6 c = search needs
+
+cast-t7 : tie.Need-cast-t7
+cast-t7 c = search needs
+
+cast-t8 : tie.Need-cast-t8
+cast-t8 c = search needs
+
+returns : tie.Need-returns
+returns c =
+    row-is (c .before .before .before .before .before .before .before .before .before .args .date)
+    (toZ-ofZ (sfits-of (c .before .before .before .before .before .widened .ok)) ∙ c .before .before .before .before .before .widened .ensures ∙ toZ-ofZ (sfits-of (c .before .before .before .before .before .before .struct-told2 .given .1 .1 .1 .1 .1 .1 .0 .1)))
+    (toZ-ofZ (sfits-of (c .before .before .before .widened2 .ok)) ∙ c .before .before .before .widened2 .ensures ∙ toZ-ofZ (sfits-of (c .before .before .before .before .struct-told3 .given .1 .0 .1)))
+    (c .before .before .before .before .before .before .before .for-jdn .ensures ∙ ap weekday (toZ-ofZ (sfits-of (c .before .before .before .before .before .before .before .before .struct-told .given .1 .1 .1 .1 .1 .1 .0 .1))))
+
+pub row-of-spec : {M : Type 1} → statement M
+row-of-spec =
+    tie.close
+    (tie.spec
+    for-jdn-requires
+    widened-requires
+    widened-requires-2
+    cast-t5
+    cast-t6
+    cast-t7
+    cast-t8
+    returns)
