@@ -297,9 +297,9 @@ def buffer(key, fields):
     c, fault = calendar(fields[2])
     answer, _ = date(c, fields[3:])
     if fault or answer[0] == '!':
-        return list(fault or answer) + [text]
+        return [text] + list(fault or answer)
     told_size, lent = into_buffer(key, c, answer[1:], text[:size])
-    return list(told_size) + [lent + text[size:]]
+    return [lent + text[size:]] + list(told_size)
 
 
 # ---- a line

@@ -1,4 +1,4 @@
-// Queries whose answer is written into a lent part of the line itself, so that the line shows what the call left of it.
+// Queries whose text is put into the output, which is then lent to the call, so that the output shows what the call leaves of it.
 use crate::put;
 use crate::query;
 use crate::reply;
@@ -34,17 +34,16 @@ fn fill(what: u8, date: Date, buf: &mut [u8]) -> Reply {
     }
 }
 
-// Lends so many bytes of the line.
-fn lend(line: &mut [u8], from: usize, size: usize, date: Date) -> Reply {
-    let what = query::byte_at(line, 1);
-    if line.len() < from {
+// Lends so many bytes of the output.
+fn lend(out: &mut [u8], at: usize, size: usize, what: u8, date: Date) -> Reply {
+    if out.len() < at {
         return reply::unreadable();
     }
-    if line.len() - from < size {
+    if out.len() - at < size {
         return reply::unreadable();
     }
-    let end = from + size;
-    fill(what, date, &mut line[from..end])
+    let end = at + size;
+    fill(what, date, &mut out[at..end])
 }
 
 fn date_of(line: &[u8], at: usize) -> Dated {
@@ -57,6 +56,13 @@ fn date_of(line: &[u8], at: usize) -> Dated {
     }
 }
 
+fn lend_for(out: &mut [u8], at: usize, size: u32, what: u8, answer: Dated) -> Reply {
+    match answer {
+        Dated::Refused(why) => reply::refused(why),
+        Dated::Date(date) => lend(out, at, size as usize, what, date),
+    }
+}
+
 fn rest(out: &mut [u8], at: usize, line: &[u8], from: usize) -> usize {
     if from <= line.len() {
         let end = line.len();
@@ -65,21 +71,13 @@ fn rest(out: &mut [u8], at: usize, line: &[u8], from: usize) -> usize {
     at
 }
 
-fn into_line(line: &mut [u8], size: usize, from: usize) -> Reply {
-    match date_of(line, query::after_tab(line, from)) {
-        Dated::Refused(why) => reply::refused(why),
-        Dated::Date(date) => {
-            let n = query::number_at(line, size);
-            lend(line, from, n as usize, date)
-        }
-    }
-}
-
-// What the call answers, and the line from its text on, as the call left it.
-pub fn answer(line: &mut [u8], out: &mut [u8], at: usize) -> usize {
+// The line from its text on, the text as the call leaves it, and what the call answers.
+pub fn answer(line: &[u8], out: &mut [u8], at: usize) -> usize {
     let size = query::after_tab(line, 0);
     let from = query::after_tab(line, size);
-    let r = into_line(line, size, from);
-    let end = put::reply(out, at, r);
-    rest(out, end, line, from)
+    let date = date_of(line, query::after_tab(line, from));
+    let end = rest(out, at, line, from);
+    let n = query::number_at(line, size);
+    let r = lend_for(out, at, n, query::byte_at(line, 1), date);
+    put::reply(out, end, r)
 }

@@ -225,16 +225,9 @@ fn told(w: Walker, count: u32, by_days: bool) -> Reply {
     walk::view(after)
 }
 
-fn walk_from(date: Date, count: u32, way: u32, by_days: bool) -> Reply {
+pub fn walk(date: Date, count: u32, way: u32, by_days: bool) -> Reply {
     match walk::walker_of(way, date) {
         Walked::Refused(why) => reply::refused(why),
         Walked::Walker(w) => told(w, count, by_days),
-    }
-}
-
-pub fn walk(answer: Dated, count: u32, way: u32, by_days: bool) -> Reply {
-    match answer {
-        Dated::Refused(why) => reply::refused(why),
-        Dated::Date(date) => walk_from(date, count, way, by_days),
     }
 }

@@ -58,47 +58,16 @@ fn name(answer: Reformed) -> Reply {
 // ---- Queries about a date
 
 // What a record that may be made up tells of itself.
-fn genuine(answer: Dated) -> Reply {
-    match answer {
-        Dated::Refused(why) => reply::refused(why),
-        Dated::Date(date) => {
-            let a = reply::count(reply::none(), reply::bit(date.is_genuine()));
-            let b = reply::counted(a, date.weekday());
-            let c = reply::told(b, date.is_julian());
-            reply::told(c, date.is_gregorian())
-        }
-    }
+fn genuine(date: Date) -> Reply {
+    let a = reply::count(reply::none(), reply::bit(date.is_genuine()));
+    let b = reply::counted(a, date.weekday());
+    let c = reply::told(b, date.is_julian());
+    reply::told(c, date.is_gregorian())
 }
 
-fn zero(answer: Dated) -> Reply {
-    match answer {
-        Dated::Refused(why) => reply::refused(why),
-        Dated::Date(date) => {
-            let a = reply::counted(reply::none(), date.ordinal0());
-            reply::counted(a, date.day_ordinal0())
-        }
-    }
-}
-
-fn after(answer: Dated) -> Dated {
-    match answer {
-        Dated::Refused(why) => Dated::Refused(why),
-        Dated::Date(date) => date.succ(),
-    }
-}
-
-fn before(answer: Dated) -> Dated {
-    match answer {
-        Dated::Refused(why) => Dated::Refused(why),
-        Dated::Date(date) => date.pred(),
-    }
-}
-
-fn converted(answer: Dated, to: Calendar) -> Dated {
-    match answer {
-        Dated::Refused(why) => Dated::Refused(why),
-        Dated::Date(date) => date.convert_to(to),
-    }
+fn zero(date: Date) -> Reply {
+    let a = reply::counted(reply::none(), date.ordinal0());
+    reply::counted(a, date.day_ordinal0())
 }
 
 fn text_byte(r: Reply, text: [u8; 14], n: usize, i: usize) -> Reply {
@@ -124,13 +93,6 @@ fn written(date: Date) -> Reply {
     match dateparse::write_date(date, &mut text) {
         Written::Refused(why) => reply::refused(why),
         Written::Done(n) => text_reply(text, n),
-    }
-}
-
-fn write(answer: Dated) -> Reply {
-    match answer {
-        Dated::Refused(why) => reply::refused(why),
-        Dated::Date(date) => written(date),
     }
 }
 
@@ -195,38 +157,44 @@ fn named(line: &[u8], from: usize) -> Reformed {
 // ---- The query of a line
 
 // The second calendar of a query stands after its date.
-fn to_calendar(answer: Dated, line: &[u8], at: usize) -> Reply {
+fn to_calendar(date: Date, line: &[u8], at: usize) -> Reply {
     match query::calendar_at(line, at) {
         Head::Refused(why) => reply::refused(why),
-        Head::Calendar(to, _) => reply::dated(converted(answer, to)),
+        Head::Calendar(to, _) => reply::dated(date.convert_to(to)),
     }
 }
 
 // `walk` and `view`: the numbers after the date are the steps and the walker.
-fn walker(answer: Dated, line: &[u8], at: usize, by_days: bool) -> Reply {
+fn walker(date: Date, line: &[u8], at: usize, by_days: bool) -> Reply {
     let way = query::number_at(line, query::after_tab(line, at));
-    digest::walk(answer, query::number_at(line, at), way, by_days)
+    digest::walk(date, query::number_at(line, at), way, by_days)
 }
 
-fn with_w(second: u8, answer: Dated, line: &[u8], at: usize) -> Reply {
+fn with_w(second: u8, date: Date, line: &[u8], at: usize) -> Reply {
     if second == b'r' {
-        return write(answer);
+        return written(date);
     }
-    walker(answer, line, at, true)
+    walker(date, line, at, true)
+}
+
+fn of_date(line: &[u8], date: Date, at: usize) -> Reply {
+    match query::byte_at(line, 0) {
+        b's' => reply::dated(date.succ()),
+        b'p' => reply::dated(date.pred()),
+        b'w' => with_w(query::byte_at(line, 1), date, line, at),
+        b'v' => walker(date, line, at, false),
+        b'z' => zero(date),
+        b'g' => genuine(date),
+        b'c' => to_calendar(date, line, at),
+        _ => reply::date(reply::none(), date),
+    }
 }
 
 fn about_date(line: &[u8], asked: Asked) -> Reply {
     let answer = asked.answer;
-    let next = asked.next;
-    match query::byte_at(line, 0) {
-        b's' => reply::dated(after(answer)),
-        b'p' => reply::dated(before(answer)),
-        b'w' => with_w(query::byte_at(line, 1), answer, line, next),
-        b'v' => walker(answer, line, next, false),
-        b'z' => zero(answer),
-        b'g' => genuine(answer),
-        b'c' => to_calendar(answer, line, next),
-        _ => reply::dated(answer),
+    match answer {
+        Dated::Refused(why) => reply::refused(why),
+        Dated::Date(date) => of_date(line, date, asked.next),
     }
 }
 
@@ -353,7 +321,7 @@ fn room(out: &[u8], n: usize) -> usize {
 }
 
 // A line that begins with `#` is a heading and answers itself.
-fn answer(line: &mut [u8], out: &mut [u8], at: usize) -> usize {
+fn answer(line: &[u8], out: &mut [u8], at: usize) -> usize {
     match query::byte_at(line, 0) {
         b'#' => put::word(out, at, line),
         b'b' => buffer::answer(line, out, at),
@@ -361,17 +329,17 @@ fn answer(line: &mut [u8], out: &mut [u8], at: usize) -> usize {
     }
 }
 
-fn answer_part(line: &mut [u8], from: usize, n: usize, out: &mut [u8], used: usize) -> usize {
+fn answer_part(line: &[u8], from: usize, n: usize, out: &mut [u8], used: usize) -> usize {
     let at = room(out, used);
     if from <= n && n <= line.len() {
-        let end = answer(&mut line[from..n], out, at);
+        let end = answer(&line[from..n], out, at);
         return put::line_end(out, end);
     }
     at
 }
 
 // The newline of a line that begins with `+` belongs to its query.
-fn answer_line(line: &mut [u8], n: usize, out: &mut [u8], used: usize) -> usize {
+fn answer_line(line: &[u8], n: usize, out: &mut [u8], used: usize) -> usize {
     if n < line.len() {
         if query::byte_at(line, 0) == b'+' {
             return answer_part(line, 1, n + 1, out, used);
