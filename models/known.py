@@ -266,6 +266,15 @@ def one_read(what, place, s):
         return refused(*f.args)
 
 
+def by_reader(what, place, s):
+    """The same by a reader that stands at the place, and the last 32 bits of where it stands then."""
+    at = place % WORD
+    told_read = list(one_read(what.lower(), place, s))
+    if what == b'E':
+        return told_read
+    return told_read + [(at if told_read[0] == '!' else told_read[-1]) % 2**32]
+
+
 def read_date(s):
     try:
         return fields_of(s)
@@ -320,7 +329,8 @@ def answer(line):
     if key == b'text':
         return read_date(b'\t'.join(fields))
     if key == b'at':
-        return one_read(fields[0], int(fields[1]), b'\t'.join(fields[2:]))
+        read = by_reader if fields[0].isupper() else one_read
+        return read(fields[0], int(fields[1]), b'\t'.join(fields[2:]))
     if key in (b'bdate', b'bymd', b'bput'):
         return buffer(key, fields)
     return of_calendar(key, fields)

@@ -6,6 +6,7 @@ use datetext::Text;
 use numbertext::Dash;
 use numbertext::End;
 use numbertext::Number;
+use numbertext::Reader;
 use numbertext::SignedNumber;
 
 // ---- What was read, and the place after it
@@ -40,11 +41,52 @@ fn end(answer: End) -> Reply {
     }
 }
 
+// ---- The same by a reader that stands at the place, and where it stands after the read
+
+fn number_then(answer: Number, at: usize) -> Reply {
+    reply::place(number(answer), at)
+}
+
+fn signed_then(answer: SignedNumber, at: usize) -> Reply {
+    reply::place(signed(answer), at)
+}
+
+fn dash_then(answer: Dash, at: usize) -> Reply {
+    reply::place(dash(answer), at)
+}
+
+fn number_by(text: &[u8], at: usize) -> Reply {
+    let mut reader = Reader { src: text, at };
+    let answer = reader.number();
+    number_then(answer, reader.at)
+}
+
+fn signed_by(text: &[u8], at: usize) -> Reply {
+    let mut reader = Reader { src: text, at };
+    let answer = reader.signed();
+    signed_then(answer, reader.at)
+}
+
+fn dash_by(text: &[u8], at: usize) -> Reply {
+    let mut reader = Reader { src: text, at };
+    let answer = reader.dash();
+    dash_then(answer, reader.at)
+}
+
+fn end_by(text: &[u8], at: usize) -> End {
+    let reader = Reader { src: text, at };
+    reader.end()
+}
+
 fn read(what: u8, text: &[u8], at: usize) -> Reply {
     match what {
         b'n' => number(numbertext::number_at(text, at)),
         b's' => signed(numbertext::signed_at(text, at)),
         b'd' => dash(numbertext::dash_at(text, at)),
+        b'N' => number_by(text, at),
+        b'S' => signed_by(text, at),
+        b'D' => dash_by(text, at),
+        b'E' => end(end_by(text, at)),
         _ => end(numbertext::end_at(text, at)),
     }
 }
