@@ -158,13 +158,15 @@ def view(c, rec, count, way):
 # ---- queries about years and months
 
 def month_question(key, c, y, m, x=None):
+    parts = 3 if key == b'mon' else 1
     if not accepted(c):
-        return refused(16)
+        return parts * refused(16)
     if not 1 <= m <= 12:
-        return refused(3, 0, m)
+        return parts * refused(3, 0, m)
     days = days_of_month(c, y, m)
     if key == b'mon':
-        return [len(days)] + list(month_ends(c, days))
+        first_and_last = [label(c, days[0])[2], label(c, days[-1])[2]] if days else [0, 0]
+        return [len(days)] + first_and_last
     if key in (b'has', b'index'):
         n = bearer(c, (y, m, x))
         if key == b'has':
@@ -177,16 +179,6 @@ def month_question(key, c, y, m, x=None):
     if key == b'kth':
         return [label(c, days[x - 1])[2]]
     return told(c, given(c, days[x - 1], y))
-
-
-def month_ends(c, days):
-    return (label(c, days[0])[2], label(c, days[-1])[2]) if days else (0, 0)
-
-
-def ends(c, y, m):
-    if not accepted(c) or not 1 <= m <= 12:
-        return 2 * month_question(b'mon', c, y, m)
-    return month_ends(c, days_of_month(c, y, m))
 
 
 def by_ymd(c, y, m, d):
@@ -225,7 +217,7 @@ def of_calendar(key, fields):
         return told(c, on_ordinal(c, x[0], x[1], 0) if accepted(c) else refused(16))
     if key == b'len':
         return [len(days_of_year(c, x[0]))] if accepted(c) else refused(16)
-    return ends(c, *x) if key == b'ends' else month_question(key, c, *x)
+    return month_question(key, c, *x)
 
 
 # ---- seconds

@@ -355,7 +355,10 @@ fn numbers<L: Library>(lib: &mut L, query: &Query, out: &mut Answer) -> Or<()> {
         }
         Mon(c, y, m) => {
             let cal = lib.calendar(c)?;
-            lib.month(cal, y, m)?.iter().for_each(|x| out.field(x));
+            match lib.month(cal, y, m) {
+                Ok(fields) => fields.iter().for_each(|x| out.field(x)),
+                Err(why) => (0..3).for_each(|_| out.refusal(why)),
+            }
         }
         Has(c, y, m, d) => {
             let cal = lib.calendar(c)?;

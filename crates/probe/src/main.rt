@@ -99,19 +99,9 @@ fn written(date: Date) -> Reply {
 // ---- Queries about a month
 
 fn month(calendar: Calendar, year: i32, month: u32) -> Reply {
-    match months::len(calendar, year, month) {
-        calendar::Counted::Refused(why) => reply::refused(why),
-        calendar::Counted::Number(n) => {
-            let a = reply::count(reply::none(), n);
-            let b = reply::counted(a, months::first_day(calendar, year, month));
-            reply::counted(b, months::last_day(calendar, year, month))
-        }
-    }
-}
-
-fn month_ends(calendar: Calendar, year: i32, month: u32) -> Reply {
-    let a = reply::counted(reply::none(), months::first_day(calendar, year, month));
-    reply::counted(a, months::last_day(calendar, year, month))
+    let a = reply::counted(reply::none(), months::len(calendar, year, month));
+    let b = reply::counted(a, months::first_day(calendar, year, month));
+    reply::counted(b, months::last_day(calendar, year, month))
 }
 
 // ---- Queries about seconds
@@ -202,7 +192,6 @@ fn about_months(letter: u8, calendar: Calendar, q: Numbers) -> Reply {
     let r = reply::none();
     match letter {
         b'm' => month(calendar, q.first, q.second),
-        b'e' => month_ends(calendar, q.first, q.second),
         b'h' => reply::told(r, months::contains(calendar, q.first, q.second, q.third)),
         b'i' => reply::counted(r, months::day_ordinal(calendar, q.first, q.second, q.third)),
         b'k' => reply::counted(r, months::nth_day(calendar, q.first, q.second, q.third)),
@@ -329,23 +318,27 @@ fn answer(line: &[u8], out: &mut [u8], at: usize) -> usize {
     }
 }
 
-fn answer_part(line: &[u8], from: usize, n: usize, out: &mut [u8], used: usize) -> usize {
-    let at = room(out, used);
-    if from <= n && n <= line.len() {
-        let end = answer(&line[from..n], out, at);
+// The newline of a line that begins with `+` belongs to its query: a byte of the line is left out, and one comes to it.
+fn shift(line: &[u8]) -> usize {
+    if query::byte_at(line, 0) == b'+' {
+        return 1;
+    }
+    0
+}
+
+fn answer_part(line: &[u8], from: usize, to: usize, out: &mut [u8], at: usize) -> usize {
+    if from <= to && to <= line.len() {
+        let end = answer(&line[from..to], out, at);
         return put::line_end(out, end);
     }
     at
 }
 
-// The newline of a line that begins with `+` belongs to its query.
+// No line has 4096 bytes.
 fn answer_line(line: &[u8], n: usize, out: &mut [u8], used: usize) -> usize {
-    if n < line.len() {
-        if query::byte_at(line, 0) == b'+' {
-            return answer_part(line, 1, n + 1, out, used);
-        }
-    }
-    answer_part(line, 0, n, out, used)
+    let from = shift(line);
+    let at = room(out, used);
+    answer_part(line, from, n % 4096 + from % 2, out, at)
 }
 
 // Of a line above 2048 bytes the rest is left out.
