@@ -114,6 +114,29 @@ def days_of_month(c, y, m):
     return [n for n in days_of_year(c, y) if label(c, n)[1] == m]
 
 
+# ---- calendars by name: the days on which the countries went over, as the comments of `ncal.rs` tell them
+
+FIRST_GREGORIAN = """
+ALBANIA 1912-12-14, AUSTRALIA 1752-09-14, AUSTRIA 1583-10-16, BELGIUM 1582-12-25, BULGARIA 1916-04-14, CANADA 1752-09-14, CHINA 1912-01-01,
+CZECH_REPUBLIC 1584-01-17, DENMARK 1700-03-01, FINLAND 1753-03-01, FRANCE 1582-12-20, GERMANY 1700-03-01, GREECE 1924-03-23,
+HUNGARY 1587-11-01, ICELAND 1700-11-28, ITALY 1582-10-15, JAPAN 1919-01-01, LATVIA 1918-02-15, LITHUANIA 1918-02-15,
+LUXEMBOURG 1582-12-25, NETHERLANDS 1582-12-25, NORWAY 1700-03-01, POLAND 1582-10-15, PORTUGAL 1582-10-15, ROMANIA 1919-04-14,
+RUSSIA 1918-02-14, SLOVENIA 1919-03-18, SPAIN 1582-10-15, SWEDEN 1753-03-01, SWITZERLAND 1655-03-11, TURKEY 1927-01-01,
+UNITED_KINGDOM 1752-09-14, UNITED_STATES 1752-09-14, YUGOSLAVIA 1919-03-18
+"""
+
+
+def calendars_by_name():
+    names = {b'JULIAN': 'J', b'GREGORIAN': 'G'}
+    for entry in FIRST_GREGORIAN.split(','):
+        country, date = entry.split()
+        names[country.encode()] = G.day(tuple(map(int, date.split('-'))))
+    return names
+
+
+NAMES = calendars_by_name()
+
+
 # ---- answers: ('=', record) or ('!', number, place, value)
 
 def refused(number, place=0, value=0):
@@ -179,21 +202,27 @@ def dash(s, at):
     return at + 1
 
 
+def fields_of(s):
+    """What a text says, read left to right: year, ordinal and its place, or year, month, day and its place."""
+    y, at = number(s, 0, LOW, HIGH, True)
+    second = dash(s, at)
+    n, at = number(s, second, 0, 2**32 - 1, False)
+    if at == len(s):
+        return (y, n, second)
+    if not 1 <= n <= 12:
+        raise Fault(3, second, n)
+    third = dash(s, at)
+    d, at = number(s, third, 0, 2**32 - 1, False)
+    if at < len(s):
+        raise Fault(14, at, s[at])
+    return (y, n, d, third)
+
+
 def parse(c, s):
     if not accepted(c):
         return refused(16)
     try:
-        y, at = number(s, 0, LOW, HIGH, True)
-        second = dash(s, at)
-        n, at = number(s, second, 0, 2**32 - 1, False)
-        if at == len(s):
-            return on_ordinal(c, y, n, second)
-        if not 1 <= n <= 12:
-            raise Fault(3, second, n)
-        third = dash(s, at)
-        d, at = number(s, third, 0, 2**32 - 1, False)
-        if at < len(s):
-            raise Fault(14, at, s[at])
-        return on_ymd(c, y, n, d, third)
+        said = fields_of(s)
+        return on_ordinal(c, *said) if len(said) == 3 else on_ymd(c, *said)
     except Fault as f:
         return refused(*f.args)

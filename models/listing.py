@@ -1,31 +1,8 @@
 #!/usr/bin/env python3
-"""The listing of standard input, as the scope has it: listing.py <entries.tsv
-
-The days on which the countries went over stand here as dates, as the comments of `ncal.rs` tell them.
-"""
+"""The listing of standard input, as the scope has it: listing.py <entries.tsv"""
 import sys
 
 from calendars import *
-
-FIRST_GREGORIAN = """
-ALBANIA 1912-12-14, AUSTRALIA 1752-09-14, AUSTRIA 1583-10-16, BELGIUM 1582-12-25, BULGARIA 1916-04-14, CANADA 1752-09-14, CHINA 1912-01-01,
-CZECH_REPUBLIC 1584-01-17, DENMARK 1700-03-01, FINLAND 1753-03-01, FRANCE 1582-12-20, GERMANY 1700-03-01, GREECE 1924-03-23,
-HUNGARY 1587-11-01, ICELAND 1700-11-28, ITALY 1582-10-15, JAPAN 1919-01-01, LATVIA 1918-02-15, LITHUANIA 1918-02-15,
-LUXEMBOURG 1582-12-25, NETHERLANDS 1582-12-25, NORWAY 1700-03-01, POLAND 1582-10-15, PORTUGAL 1582-10-15, ROMANIA 1919-04-14,
-RUSSIA 1918-02-14, SLOVENIA 1919-03-18, SPAIN 1582-10-15, SWEDEN 1753-03-01, SWITZERLAND 1655-03-11, TURKEY 1927-01-01,
-UNITED_KINGDOM 1752-09-14, UNITED_STATES 1752-09-14, YUGOSLAVIA 1919-03-18
-"""
-
-
-def calendars_by_name():
-    names = {b'JULIAN': 'J', b'GREGORIAN': 'G'}
-    for entry in FIRST_GREGORIAN.split(','):
-        country, date = entry.split()
-        names[country.encode()] = G.day(tuple(map(int, date.split('-'))))
-    return names
-
-
-NAMES = calendars_by_name()
 
 
 def answer(line):

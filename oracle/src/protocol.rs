@@ -199,22 +199,11 @@ impl Answer {
         self.field(if r.julian { 'J' } else { 'G' });
         self.field(r.weekday);
     }
-    /// The crate's name of a refusal that answers to one, or its number; its place; its value.
+    /// A refusal by its number; its place; its value.
     pub fn refusal(&mut self, why: Refusal) {
         self.field('!');
         match why.number {
             NOT_UTF8 => self.field("NotUtf8"),
-            1 => self.field("InvalidReformation"),
-            2 => self.field("Arithmetic"),
-            3 => self.field("InvalidMonth"),
-            8 => self.field("EmptyInt"),
-            9 if why.place == 0 => self.field("InvalidIntStart"),
-            9 => self.field("InvalidUIntStart"),
-            10 => self.field("InvalidDigit"),
-            11 => self.field("Overflow"),
-            12 => self.field("UnexpectedChar"),
-            13 => self.field("UnexpectedEnd"),
-            14 => self.field("Trailing"),
             n => self.field(n),
         }
         self.field(why.place);
@@ -366,7 +355,10 @@ fn numbers<L: Library>(lib: &mut L, query: &Query, out: &mut Answer) -> Or<()> {
         }
         Mon(c, y, m) => {
             let cal = lib.calendar(c)?;
-            lib.month(cal, y, m)?.iter().for_each(|x| out.field(x));
+            match lib.month(cal, y, m) {
+                Ok(fields) => fields.iter().for_each(|x| out.field(x)),
+                Err(why) => (0..3).for_each(|_| out.refusal(why)),
+            }
         }
         Has(c, y, m, d) => {
             let cal = lib.calendar(c)?;

@@ -7,11 +7,11 @@ ghost use Rattle.numbertext.specs.Reading.{theNumber, theDash};
 ghost use Rattle.datetext.specs.Grammar.{ReadDate};
 ghost use Rattle.datetext.specs.Reading.{isMonth, afterDay, afterMonth, afterSecond, afterDash};
 ghost use Rattle.datetext.specs.Usual.{IfAt, Hundreds, YearRead, MonthRead, DayRead};
-use refusals::Refusal;
 use numbertext::Dash;
 use numbertext::End;
 use numbertext::Number;
 use numbertext::SignedNumber;
+use refusals::Refusal;
 
 // What a text writes, or its first fault. The place is that of the number which a later refusal may name, the ordinal or the day.
 pub enum Text {

@@ -2,6 +2,7 @@
 // (h * 1000003 + x + 2^33) mod 2147483647. A refused date counts as x = 1 - 2^33, or 2 - 2^33 where its number is outside 32 bits.
 use crate::reply;
 use crate::reply::Reply;
+use crate::walk;
 use calendar::Calendar;
 use calendar::Counted;
 use calendar::Date;
@@ -167,7 +168,7 @@ struct Walking {
 
 fn one_step(t: Walking) -> Walking {
     let w = t.walker;
-    let m = walker::stepped(w);
+    let m = walk::lent(w);
     let after = m.walker;
     let last = t.last;
     let answer = m.answer;
@@ -207,34 +208,26 @@ fn trail(t: Walking) -> Reply {
     reply::date(b, last)
 }
 
-// The four walkers by number.
-fn made(way: u32, date: Date) -> Walked {
-    match way {
-        0 => walker::later(date),
-        1 => walker::earlier(date),
-        2 => walker::and_later(date),
-        _ => walker::and_earlier(date),
+// The days of a walk, or the walker after them and its next step.
+fn told(w: Walker, count: u32, by_days: bool) -> Reply {
+    let date = w.date;
+    let start = Walking {
+        walker: w,
+        last: date,
+        given: 0,
+        hash: 0,
+    };
+    let end = steps(start, count);
+    if by_days {
+        return trail(end);
     }
+    let after = end.walker;
+    walk::view(after)
 }
 
-fn walk_from(date: Date, count: u32, way: u32) -> Reply {
-    match made(way, date) {
+pub fn walk(date: Date, count: u32, way: u32, by_days: bool) -> Reply {
+    match walk::walker_of(way, date) {
         Walked::Refused(why) => reply::refused(why),
-        Walked::Walker(w) => {
-            let start = Walking {
-                walker: w,
-                last: date,
-                given: 0,
-                hash: 0,
-            };
-            trail(steps(start, count))
-        }
-    }
-}
-
-pub fn walk(answer: Dated, count: u32, way: u32) -> Reply {
-    match answer {
-        Dated::Refused(why) => reply::refused(why),
-        Dated::Date(date) => walk_from(date, count, way),
+        Walked::Walker(w) => told(w, count, by_days),
     }
 }

@@ -1,9 +1,12 @@
-// The port's side of the comparison with the Rust crate: a query a line from standard input, an answer a line to standard output.
+// Answers queries about the calendar with the library: a query a line from standard input, an answer a line to standard output.
 // oracle/PROTOCOL.md has the queries and their answers. A query is known by its first two letters.
+mod buffer;
 mod digest;
 mod put;
 mod query;
 mod reply;
+mod text;
+mod walk;
 
 use calendar::Calendar;
 use calendar::Date;
@@ -11,6 +14,7 @@ use calendar::Dated;
 use calendar::ReformDate;
 use calendar::ReformDay;
 use calendar::Reformed;
+use query::Asked;
 use query::Head;
 use query::Numbers;
 use reply::Reply;
@@ -24,7 +28,7 @@ fn ref_day(r: Reply, answer: ReformDay) -> Reply {
     match answer {
         ReformDay::Day(day) => reply::number(r, whole::widened(day)),
         ReformDay::Never => reply::letter(r, b'-'),
-        ReformDay::Refused(why) => reply::refused(why),
+        ReformDay::Refused(why) => reply::refusal(r, why),
     }
 }
 
@@ -32,7 +36,7 @@ fn ref_date(r: Reply, answer: ReformDate) -> Reply {
     match answer {
         ReformDate::Date(date) => reply::date(r, date),
         ReformDate::Never => reply::letter(r, b'-'),
-        ReformDate::Refused(why) => reply::refused(why),
+        ReformDate::Refused(why) => reply::refusal(r, why),
     }
 }
 
@@ -44,52 +48,26 @@ fn reformation(calendar: Calendar) -> Reply {
     ref_date(d, calendar.first_gregorian_date())
 }
 
-fn calendar_word(calendar: Calendar) -> Reply {
-    match calendar {
-        Calendar::Julian => reply::letter(reply::none(), b'J'),
-        Calendar::Gregorian => reply::letter(reply::none(), b'G'),
-        Calendar::Reforming(r) => reply::number(reply::none(), whole::widened(r)),
-    }
-}
-
 fn name(answer: Reformed) -> Reply {
     match answer {
         Reformed::Refused(why) => reply::refused(why),
-        Reformed::Calendar(calendar) => calendar_word(calendar),
+        Reformed::Calendar(calendar) => reply::calendar(reply::none(), calendar),
     }
 }
 
 // ---- Queries about a date
 
-fn zero(answer: Dated) -> Reply {
-    match answer {
-        Dated::Refused(why) => reply::refused(why),
-        Dated::Date(date) => {
-            let a = reply::counted(reply::none(), date.ordinal0());
-            reply::counted(a, date.day_ordinal0())
-        }
-    }
+// What a record that may be made up tells of itself.
+fn genuine(date: Date) -> Reply {
+    let a = reply::count(reply::none(), reply::bit(date.is_genuine()));
+    let b = reply::counted(a, date.weekday());
+    let c = reply::told(b, date.is_julian());
+    reply::told(c, date.is_gregorian())
 }
 
-fn after(answer: Dated) -> Dated {
-    match answer {
-        Dated::Refused(why) => Dated::Refused(why),
-        Dated::Date(date) => date.succ(),
-    }
-}
-
-fn before(answer: Dated) -> Dated {
-    match answer {
-        Dated::Refused(why) => Dated::Refused(why),
-        Dated::Date(date) => date.pred(),
-    }
-}
-
-fn converted(answer: Dated, to: Calendar) -> Dated {
-    match answer {
-        Dated::Refused(why) => Dated::Refused(why),
-        Dated::Date(date) => date.convert_to(to),
-    }
+fn zero(date: Date) -> Reply {
+    let a = reply::counted(reply::none(), date.ordinal0());
+    reply::counted(a, date.day_ordinal0())
 }
 
 fn text_byte(r: Reply, text: [u8; 14], n: usize, i: usize) -> Reply {
@@ -118,24 +96,12 @@ fn written(date: Date) -> Reply {
     }
 }
 
-fn write(answer: Dated) -> Reply {
-    match answer {
-        Dated::Refused(why) => reply::refused(why),
-        Dated::Date(date) => written(date),
-    }
-}
-
 // ---- Queries about a month
 
 fn month(calendar: Calendar, year: i32, month: u32) -> Reply {
-    match months::len(calendar, year, month) {
-        calendar::Counted::Refused(why) => reply::refused(why),
-        calendar::Counted::Number(n) => {
-            let a = reply::count(reply::none(), n);
-            let b = reply::counted(a, months::first_day(calendar, year, month));
-            reply::counted(b, months::last_day(calendar, year, month))
-        }
-    }
+    let a = reply::counted(reply::none(), months::len(calendar, year, month));
+    let b = reply::counted(a, months::first_day(calendar, year, month));
+    reply::counted(b, months::last_day(calendar, year, month))
 }
 
 // ---- Queries about seconds
@@ -180,19 +146,57 @@ fn named(line: &[u8], from: usize) -> Reformed {
 
 // ---- The query of a line
 
-// Queries whose second letter tells them apart.
-fn with_p(second: u8, calendar: Calendar, q: Numbers) -> Reply {
-    if second == b'l' {
-        return reply::digest(reply::none(), digest::places(calendar, q.first));
+// The second calendar of a query stands after its date.
+fn to_calendar(date: Date, line: &[u8], at: usize) -> Reply {
+    match query::calendar_at(line, at) {
+        Head::Refused(why) => reply::refused(why),
+        Head::Calendar(to, _) => reply::dated(date.convert_to(to)),
     }
-    reply::dated(before(calendar.at_jdn(q.first)))
 }
 
-fn with_w(second: u8, calendar: Calendar, q: Numbers) -> Reply {
+// `walk` and `view`: the numbers after the date are the steps and the walker.
+fn walker(date: Date, line: &[u8], at: usize, by_days: bool) -> Reply {
+    let way = query::number_at(line, query::after_tab(line, at));
+    digest::walk(date, query::number_at(line, at), way, by_days)
+}
+
+fn with_w(second: u8, date: Date, line: &[u8], at: usize) -> Reply {
     if second == b'r' {
-        return write(calendar.at_jdn(q.first));
+        return written(date);
     }
-    digest::walk(calendar.at_jdn(q.first), q.second, q.third)
+    walker(date, line, at, true)
+}
+
+fn of_date(line: &[u8], date: Date, at: usize) -> Reply {
+    match query::byte_at(line, 0) {
+        b's' => reply::dated(date.succ()),
+        b'p' => reply::dated(date.pred()),
+        b'w' => with_w(query::byte_at(line, 1), date, line, at),
+        b'v' => walker(date, line, at, false),
+        b'z' => zero(date),
+        b'g' => genuine(date),
+        b'c' => to_calendar(date, line, at),
+        _ => reply::date(reply::none(), date),
+    }
+}
+
+fn about_date(line: &[u8], asked: Asked) -> Reply {
+    let answer = asked.answer;
+    match answer {
+        Dated::Refused(why) => reply::refused(why),
+        Dated::Date(date) => of_date(line, date, asked.next),
+    }
+}
+
+fn about_months(letter: u8, calendar: Calendar, q: Numbers) -> Reply {
+    let r = reply::none();
+    match letter {
+        b'm' => month(calendar, q.first, q.second),
+        b'h' => reply::told(r, months::contains(calendar, q.first, q.second, q.third)),
+        b'i' => reply::counted(r, months::day_ordinal(calendar, q.first, q.second, q.third)),
+        b'k' => reply::counted(r, months::nth_day(calendar, q.first, q.second, q.third)),
+        _ => reply::dated(months::nth_date(calendar, q.first, q.second, q.third)),
+    }
 }
 
 fn with_y(second: u8, calendar: Calendar, q: Numbers) -> Reply {
@@ -202,71 +206,44 @@ fn with_y(second: u8, calendar: Calendar, q: Numbers) -> Reply {
     reply::dated(calendar.at_ymd(q.first, q.second, q.third))
 }
 
-fn about_days(letter: u8, second: u8, calendar: Calendar, q: Numbers) -> Reply {
+fn about_years(letter: u8, second: u8, calendar: Calendar, q: Numbers) -> Reply {
     match letter {
-        b'p' => with_p(second, calendar, q),
-        b's' => reply::dated(after(calendar.at_jdn(q.first))),
-        b'w' => with_w(second, calendar, q),
-        b'd' => digest::days(calendar, q.first, q.second, q.third),
-        b'z' => zero(calendar.at_jdn(q.first)),
-        _ => reply::unreadable(),
-    }
-}
-
-fn about_months(letter: u8, second: u8, calendar: Calendar, q: Numbers) -> Reply {
-    let r = reply::none();
-    match letter {
-        b'm' => month(calendar, q.first, q.second),
-        b'h' => reply::told(r, months::contains(calendar, q.first, q.second, q.third)),
-        b'i' => reply::counted(r, months::day_ordinal(calendar, q.first, q.second, q.third)),
-        b'k' => reply::counted(r, months::nth_day(calendar, q.first, q.second, q.third)),
-        b'f' => reply::dated(months::nth_date(calendar, q.first, q.second, q.third)),
-        _ => about_days(letter, second, calendar, q),
-    }
-}
-
-fn about_dates(letter: u8, second: u8, calendar: Calendar, q: Numbers) -> Reply {
-    match letter {
-        b'j' => reply::dated(calendar.at_jdn(q.first)),
         b'y' => with_y(second, calendar, q),
         b'o' => reply::dated(calendar.at_ordinal_date(q.first, q.second)),
         b'l' => reply::counted(reply::none(), months::year_length(calendar, q.first)),
+        b'd' => digest::days(calendar, q.first, q.second, q.third),
+        b'p' => reply::digest(reply::none(), digest::places(calendar, q.first)),
         b'r' => reformation(calendar),
-        _ => about_months(letter, second, calendar, q),
+        _ => about_months(letter, calendar, q),
     }
 }
 
-// The second calendar of a query is its third field.
-fn to_calendar(calendar: Calendar, line: &[u8], from: usize) -> Reply {
-    let jdn = query::signed_at(line, from);
-    match query::calendar_at(line, query::after_tab(line, from)) {
-        Head::Unreadable => reply::unreadable(),
-        Head::Refused(why) => reply::refused(why),
-        Head::Calendar(to, _) => reply::dated(converted(calendar.at_jdn(jdn), to)),
+// Queries about a date begin with one of these letters, but for `parse` and `places`.
+fn is_about_date(letter: u8, second: u8) -> bool {
+    match letter {
+        b'j' | b's' | b'w' | b'v' | b'z' | b'g' | b'c' => true,
+        b'p' => second == b'r',
+        _ => false,
     }
-}
-
-// Whether a query is `parse`, and not another with this letter.
-fn is_parse(letter: u8, second: u8) -> bool {
-    letter == b'p' && second == b'a'
 }
 
 fn with_calendar(calendar: Calendar, line: &[u8], from: usize) -> Reply {
     let letter = query::byte_at(line, 0);
     let second = query::byte_at(line, 1);
-    if is_parse(letter, second) {
+    if is_about_date(letter, second) {
+        return about_date(line, query::date_at(calendar, line, from));
+    }
+    if letter == b'u' {
+        return unix(unixtime::at_unix_time(calendar, query::long_at(line, from)));
+    }
+    if second == b'a' && letter == b'p' {
         return parse(calendar, line, from);
     }
-    match letter {
-        b'u' => unix(unixtime::at_unix_time(calendar, query::long_at(line, from))),
-        b'c' => to_calendar(calendar, line, from),
-        _ => about_dates(letter, second, calendar, query::numbers_at(line, from)),
-    }
+    about_years(letter, second, calendar, query::numbers_at(line, from))
 }
 
 fn of_calendar(line: &[u8], from: usize) -> Reply {
     match query::calendar_at(line, from) {
-        Head::Unreadable => reply::unreadable(),
         Head::Refused(why) => reply::refused(why),
         Head::Calendar(calendar, next) => with_calendar(calendar, line, next),
     }
@@ -287,15 +264,24 @@ fn is_of_day(letter: u8, second: u8) -> bool {
     letter == b's' && second == b'e'
 }
 
+fn with_t(second: u8, line: &[u8], from: usize) -> Reply {
+    if second == b'i' {
+        return time(unixtime::unix2jdn(query::long_at(line, from)));
+    }
+    text::whole_text(line, from)
+}
+
 fn answer_to(line: &[u8]) -> Reply {
     let letter = query::byte_at(line, 0);
+    let second = query::byte_at(line, 1);
     let from = query::after_tab(line, 0);
-    if is_of_day(letter, query::byte_at(line, 1)) {
+    if is_of_day(letter, second) {
         return of_day(letter, query::signed_at(line, from));
     }
     match letter {
         b'n' => name(named(line, from)),
-        b't' => time(unixtime::unix2jdn(query::long_at(line, from))),
+        b't' => with_t(second, line, from),
+        b'a' => text::at(line, from),
         _ => of_calendar(line, from),
     }
 }
@@ -314,32 +300,61 @@ fn flush(out: &[u8], n: usize) {
     }
 }
 
-// An answer has fewer than 512 bytes.
+// An answer has at most as many bytes as a line.
 fn room(out: &[u8], n: usize) -> usize {
-    if n < 65_024 {
+    if n < 63_000 {
         return n;
     }
     flush(out, n);
     0
 }
 
-fn answer(line: &[u8], n: usize, out: &mut [u8], used: usize) -> usize {
-    let at = room(out, used);
-    if n <= line.len() {
-        let end = put::reply(out, at, answer_to(&line[0..n]));
+// A line that begins with `#` is a heading and answers itself.
+fn answer(line: &[u8], out: &mut [u8], at: usize) -> usize {
+    match query::byte_at(line, 0) {
+        b'#' => put::word(out, at, line),
+        b'b' => buffer::answer(line, out, at),
+        _ => put::reply(out, at, answer_to(line)),
+    }
+}
+
+// The newline of a line that begins with `+` belongs to its query: a byte of the line is left out, and one comes to it.
+fn shift(line: &[u8]) -> usize {
+    if query::byte_at(line, 0) == b'+' {
+        return 1;
+    }
+    0
+}
+
+fn answer_part(line: &[u8], from: usize, to: usize, out: &mut [u8], at: usize) -> usize {
+    if from <= to && to <= line.len() {
+        let end = answer(&line[from..to], out, at);
         return put::line_end(out, end);
     }
     at
 }
 
-// Takes one byte. Of a line above 512 bytes the rest is left out.
+// No line has 4096 bytes.
+fn answer_line(line: &[u8], n: usize, out: &mut [u8], used: usize) -> usize {
+    let from = shift(line);
+    let at = room(out, used);
+    answer_part(line, from, n % 4096 + from % 2, out, at)
+}
+
+// Of a line above 2048 bytes the rest is left out.
+fn keep(line: &mut [u8], n: usize, b: u8) {
+    if n < line.len() {
+        line[n] = b;
+    }
+}
+
 fn one(b: u8, line: &mut [u8], out: &mut [u8], n: usize, used: usize) -> State {
+    keep(line, n, b);
     if b == 10 {
-        let end = answer(line, n, out, used);
+        let end = answer_line(line, n, out, used);
         return State { line: 0, out: end };
     }
     if n < line.len() {
-        line[n] = b;
         return State {
             line: n + 1,
             out: used,
@@ -369,7 +384,7 @@ fn feed_front(block: &[u8], n: usize, line: &mut [u8], out: &mut [u8], start: St
 fn main() {
     let mut block = io::large_buffer();
     let mut out = io::large_buffer();
-    let mut line = [0u8; 512];
+    let mut line = [0u8; 2048];
     let mut n: usize = 0;
     let mut turns = u64::MAX;
     while turns > 0 {

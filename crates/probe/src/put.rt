@@ -23,7 +23,7 @@ pub fn line_end(out: &mut [u8], at: usize) -> usize {
     at
 }
 
-fn word(out: &mut [u8], at: usize, w: &[u8]) -> usize {
+pub fn word(out: &mut [u8], at: usize, w: &[u8]) -> usize {
     let mut end = at;
     let mut i: usize = 0;
     while i < w.len() {
@@ -40,30 +40,6 @@ fn number(out: &mut [u8], at: usize, x: i64) -> usize {
     }
 }
 
-// The crate's name of a refusal that answers to one, and the number of any other.
-fn low_name(out: &mut [u8], at: usize, x: u64) -> usize {
-    match x {
-        1 => word(out, at, b"InvalidReformation"),
-        2 => word(out, at, b"Arithmetic"),
-        3 => word(out, at, b"InvalidMonth"),
-        8 => word(out, at, b"EmptyInt"),
-        9 => word(out, at, b"InvalidIntStart"),
-        _ => number(out, at, whole::counted((x % 1000) as u32)),
-    }
-}
-
-fn high_name(out: &mut [u8], at: usize, x: u64) -> usize {
-    match x {
-        10 => word(out, at, b"InvalidDigit"),
-        11 => word(out, at, b"Overflow"),
-        12 => word(out, at, b"UnexpectedChar"),
-        13 => word(out, at, b"UnexpectedEnd"),
-        14 => word(out, at, b"Trailing"),
-        109 => word(out, at, b"InvalidUIntStart"),
-        _ => low_name(out, at, x),
-    }
-}
-
 fn letter(x: i64) -> u8 {
     (whole::magnitude(x) % 256) as u8
 }
@@ -71,9 +47,6 @@ fn letter(x: i64) -> u8 {
 fn field(out: &mut [u8], at: usize, kind: u8, x: i64) -> usize {
     if kind == crate::reply::NUMBER {
         return number(out, at, x);
-    }
-    if kind == crate::reply::NAME {
-        return high_name(out, at, whole::magnitude(x));
     }
     let end = byte(out, at, letter(x));
     if kind == crate::reply::LETTER {
@@ -83,7 +56,7 @@ fn field(out: &mut [u8], at: usize, kind: u8, x: i64) -> usize {
 }
 
 fn field_at(out: &mut [u8], at: usize, r: Reply, i: usize) -> usize {
-    if i < 24 {
+    if i < 48 {
         let kind = r.kinds[i];
         let x = r.values[i];
         return field(out, at, kind, x);

@@ -1,5 +1,7 @@
 // The fields of a query, which tabs part. A number that is missing counts as 0.
 use calendar::Calendar;
+use calendar::Date;
+use calendar::Dated;
 use calendar::Reformed;
 use calendar::Refusal;
 use numbertext::Number;
@@ -9,7 +11,12 @@ use numbertext::SignedNumber;
 pub enum Head {
     Calendar(Calendar, usize),
     Refused(Refusal),
-    Unreadable,
+}
+
+// The date of a query and where the fields after it begin.
+pub struct Asked {
+    pub answer: Dated,
+    pub next: usize,
 }
 
 // A signed number and two unsigned ones: what most queries ask about.
@@ -49,7 +56,7 @@ pub fn signed_at(line: &[u8], at: usize) -> i32 {
     }
 }
 
-fn number_at(line: &[u8], at: usize) -> u32 {
+pub fn number_at(line: &[u8], at: usize) -> u32 {
     match numbertext::number_at(line, at) {
         Number::Value(n, _) => n,
         Number::Refused(_) => 0,
@@ -66,11 +73,28 @@ pub fn numbers_at(line: &[u8], at: usize) -> Numbers {
     }
 }
 
+// ---- Calendars and dates
+
 fn reformed(answer: Reformed, next: usize) -> Head {
     match answer {
         Reformed::Calendar(calendar) => Head::Calendar(calendar, next),
         Reformed::Refused(why) => Head::Refused(why),
     }
+}
+
+fn reforming_at(line: &[u8], at: usize, next: usize) -> Head {
+    match numbertext::signed_at(line, at) {
+        SignedNumber::Value(r, _) => reformed(Calendar::reforming(r), next),
+        SignedNumber::Refused(why) => Head::Refused(why),
+    }
+}
+
+// The day of a reformation that nothing has looked at, after its mark.
+fn made_up_calendar(line: &[u8], at: usize) -> Calendar {
+    if at < line.len() {
+        return Calendar::Reforming(signed_at(line, at + 1));
+    }
+    Calendar::JULIAN
 }
 
 // A calendar is `J`, `G`, or the day of its reformation.
@@ -79,13 +103,45 @@ pub fn calendar_at(line: &[u8], at: usize) -> Head {
     match byte_at(line, at) {
         b'J' => Head::Calendar(Calendar::JULIAN, next),
         b'G' => Head::Calendar(Calendar::GREGORIAN, next),
-        _ => match numbertext::signed_at(line, at) {
-            SignedNumber::Value(r, _) => reformed(Calendar::reforming(r), next),
-            SignedNumber::Refused(_) => Head::Unreadable,
-        },
+        b'?' => Head::Calendar(made_up_calendar(line, at), next),
+        _ => reforming_at(line, at, next),
     }
 }
 
+// A record by its fields, which may be made up.
+fn record_at(calendar: Calendar, line: &[u8], at: usize) -> Asked {
+    let jdn = signed_at(line, at);
+    let year = after_tab(line, at);
+    let ordinal = after_tab(line, year);
+    let month = after_tab(line, ordinal);
+    let day = after_tab(line, month);
+    let day_ordinal = after_tab(line, day);
+    let date = Date {
+        calendar: calendar,
+        year: signed_at(line, year),
+        ordinal: number_at(line, ordinal),
+        month: number_at(line, month),
+        day: number_at(line, day),
+        day_ordinal: number_at(line, day_ordinal),
+        jdn: jdn,
+    };
+    Asked {
+        answer: Dated::Date(date),
+        next: after_tab(line, day_ordinal),
+    }
+}
+
+// A date is a day number, or `=` and the fields of a record.
+pub fn date_at(calendar: Calendar, line: &[u8], at: usize) -> Asked {
+    let next = after_tab(line, at);
+    if byte_at(line, at) == b'=' {
+        return record_at(calendar, line, next);
+    }
+    Asked {
+        answer: calendar.at_jdn(signed_at(line, at)),
+        next: next,
+    }
+}
 // ---- Seconds, which have 64 bits, and are the last field of their query
 
 fn wide(b: u8) -> u64 {

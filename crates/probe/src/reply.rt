@@ -1,39 +1,37 @@
 // The fields of an answer, as values: functions that hand them on are proved much faster than those that write into a lent buffer.
+use calendar::Calendar;
 use calendar::Counted;
 use calendar::Date;
 use calendar::Dated;
 use calendar::Refusal;
 use calendar::Told;
 
-// The longest answer has 19 fields. A field is a number, or by its kind something else.
+// The longest answer has 43 fields. A field is a number, or by its kind something else.
 pub struct Reply {
     pub n: usize,
-    pub values: [i64; 24],
-    pub kinds: [u8; 24],
+    pub values: [i64; 48],
+    pub kinds: [u8; 48],
 }
 
 pub const NUMBER: u8 = 0;
 
 pub const LETTER: u8 = 1;
 
-// The name of a refusal, by its number.
-pub const NAME: u8 = 2;
-
 // A byte of a text, with no tab after it.
-pub const BYTE: u8 = 3;
+pub const BYTE: u8 = 2;
 
 pub fn none() -> Reply {
     Reply {
         n: 0,
-        values: [0; 24],
-        kinds: [0; 24],
+        values: [0; 48],
+        kinds: [0; 48],
     }
 }
 
 pub fn add(reply: Reply, kind: u8, x: i64) -> Reply {
     let mut r = reply;
     let n = r.n;
-    if n < 24 {
+    if n < 48 {
         r.values[n] = x;
         r.kinds[n] = kind;
         r.n = n + 1;
@@ -49,6 +47,11 @@ pub fn count(reply: Reply, n: u32) -> Reply {
     add(reply, NUMBER, whole::counted(n))
 }
 
+// A place in a line.
+pub fn place(reply: Reply, n: usize) -> Reply {
+    count(reply, (n % 4_294_967_296) as u32)
+}
+
 // A digest is below 2^31.
 pub fn digest(reply: Reply, h: u64) -> Reply {
     count(reply, (h % 4_294_967_296) as u32)
@@ -62,49 +65,46 @@ pub fn unreadable() -> Reply {
     letter(none(), b'?')
 }
 
-// ---- Refusals
+// ---- Answers of the library
 
-// Of the two names that number 9 has, the crate uses the first at the year, where a number can have a sign. The other counts as 109 here.
-fn name_of(number: u32, place: usize) -> u32 {
-    if number == 9 && 0 < place {
-        return 109;
-    }
-    number
-}
-
-pub fn refused(why: Refusal) -> Reply {
-    let a = letter(none(), b'!');
-    let b = add(a, NAME, whole::counted(name_of(why.number, why.place)));
-    let c = count(b, (why.place % 4_294_967_296) as u32);
+pub fn refusal(reply: Reply, why: Refusal) -> Reply {
+    let a = letter(reply, b'!');
+    let b = count(a, why.number);
+    let c = place(b, why.place);
     number(c, why.value)
 }
 
-// ---- Answers of the library
+pub fn refused(why: Refusal) -> Reply {
+    refusal(none(), why)
+}
 
 pub fn counted(reply: Reply, answer: Counted) -> Reply {
     match answer {
         Counted::Number(n) => count(reply, n),
-        Counted::Refused(why) => refused(why),
+        Counted::Refused(why) => refusal(reply, why),
     }
 }
 
-// 1 for yes, 0 for no, 2 for a refusal.
-fn truth(answer: Told) -> u32 {
-    match answer {
-        Told::Refused(_) => 2,
-        Told::Is(yes) => {
-            if yes {
-                return 1;
-            }
-            0
-        }
+// 1 for yes, 0 for no.
+pub fn bit(yes: bool) -> u32 {
+    if yes {
+        return 1;
     }
+    0
 }
 
 pub fn told(reply: Reply, answer: Told) -> Reply {
     match answer {
-        Told::Refused(why) => refused(why),
-        Told::Is(yes) => count(reply, truth(Told::Is(yes))),
+        Told::Refused(why) => refusal(reply, why),
+        Told::Is(yes) => count(reply, bit(yes)),
+    }
+}
+
+// As a bit, and 2 for a refusal.
+fn truth(answer: Told) -> u32 {
+    match answer {
+        Told::Refused(_) => 2,
+        Told::Is(yes) => bit(yes),
     }
 }
 
@@ -129,20 +129,36 @@ fn style(date: Date) -> u8 {
     style_letter(julian, gregorian)
 }
 
-pub fn date(reply: Reply, date: Date) -> Reply {
+pub fn calendar(reply: Reply, calendar: Calendar) -> Reply {
+    match calendar {
+        Calendar::Julian => letter(reply, b'J'),
+        Calendar::Gregorian => letter(reply, b'G'),
+        Calendar::Reforming(r) => number(reply, whole::widened(r)),
+    }
+}
+
+// The numbers that stand in a record.
+pub fn fields(reply: Reply, date: Date) -> Reply {
     let a = number(reply, whole::widened(date.jdn));
     let b = number(a, whole::widened(date.year));
     let c = count(b, date.ordinal);
     let d = count(c, date.month);
     let e = count(d, date.day);
-    let f = count(e, date.day_ordinal);
-    let g = letter(f, style(date));
-    counted(g, date.weekday())
+    count(e, date.day_ordinal)
+}
+
+pub fn date(reply: Reply, date: Date) -> Reply {
+    let a = letter(fields(reply, date), style(date));
+    counted(a, date.weekday())
+}
+
+pub fn dated_on(reply: Reply, answer: Dated) -> Reply {
+    match answer {
+        Dated::Date(d) => date(reply, d),
+        Dated::Refused(why) => refusal(reply, why),
+    }
 }
 
 pub fn dated(answer: Dated) -> Reply {
-    match answer {
-        Dated::Date(d) => date(none(), d),
-        Dated::Refused(why) => refused(why),
-    }
+    dated_on(none(), answer)
 }

@@ -6,7 +6,7 @@ use Rattle.probe.proofs.main.Statement.{statement}
 use Rattle.probe.proofs.main.Tie as tie
 
 abbrev Inv-loop : tie.InvT-loop
-Inv-loop block₀ out₀ line₀ n₀ turns₀ block out line n turns = (length block ≡ 65536) × (length out ≡ 65536) × (length line ≡ 512)
+Inv-loop block₀ out₀ line₀ n₀ turns₀ block out line n turns = (length block ≡ 65536) × (length out ≡ 65536) × (length line ≡ 2048)
 
 abbrev μ-loop : tie.MeasureT-loop
 μ-loop block₀ out₀ line₀ n₀ turns₀ block out line n turns = turns

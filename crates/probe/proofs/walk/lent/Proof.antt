@@ -1,4 +1,4 @@
--- `walker_known::lent` meets its contract: a walk of its MIR, by hand. A local is lent by `&mut` to `step` for a lifetime that is made for the
+-- `probe::walk::lent` meets its contract: a walk of its MIR, by hand. A local is lent by `&mut` to `step` for a lifetime that is made for the
 -- call, and comes back at the walker that `step` promises. All that the proof knows of `step` is that it meets its promise.
 -- Assumes nothing.
 use mathlib.Core.Path.{refl, ap}
@@ -54,10 +54,10 @@ use Rattle.walker.proofs.step as step
 use Rattle.walker.proofs.step.Symbol as step-def
 use Rattle.walker.proofs.step.Symbol.{name as #step}
 use Rattle.walker.proofs.step.Met as step-thm
-use Rattle.walker_known.proofs.lent.Key.{name as #lent}
-use Rattle.walker_known.proofs.lent as lent
-use Rattle.walker_known.proofs.lent.Statement as stated
-use Rattle.walker_known.proofs.lent.Code as code
+use Rattle.probe.proofs.walk.lent.Key.{name as #lent}
+use Rattle.probe.proofs.walk.lent as lent
+use Rattle.probe.proofs.walk.lent.Statement as stated
+use Rattle.probe.proofs.walk.lent.Code as code
 
 abbrev stayed : Stays (lent.ended .signature .params) (lent.ended .kept)
 stayed = (stay-none (λ _. T.the-row) yes, tt)
