@@ -159,18 +159,15 @@ left-alone {b = b} {at = at} t x e h g =
 
 -- ---- what the parts of a date come to, one after the other
 
-pub signed-room : (k at : ℕ) {len : ℕ} {neg : Bool} → neg ≡ true → at + wholeWidth neg k ≤ len → at + 1 + k ≤ len
-signed-room k at {len} e h = omega (arith, subst (λ (t : Bool). at + wholeWidth t k ≤ len) e h)
+pub dashed-room : (k at : ℕ) {len : ℕ} {neg : Bool} → neg ≡ true → at + wholeWidth neg k ≤ len → at + 1 + k ≤ len
+dashed-room k at {len} e h = omega (arith, subst (λ (t : Bool). at + wholeWidth t k ≤ len) e h)
 
-pub so-signed : (k n : ℕ) {b : List ℕ} {at : ℕ} {b′ : List ℕ} {i : ℕ} {neg : Bool} → neg ≡ true → at + wholeWidth neg k ≤ length b
-    → So (set b at dash) (at + 1) (digitsOf k n) b′ i → So b at (wholeText neg k n) b′ i
-so-signed k n {b} {at} {b′} {i} e h s =
-    let room : at + 1 + k ≤ length b = signed-room k at e h in
-    subst (λ (t : Bool). So b at (wholeText t k n) b′ i) (sym e)
-    (so-on {t = dash ∷ []} (record { is = put-byte b at dash (omega arith); place = refl }) (digitsOf k n) (omega (arith, length-digits k n)) s)
+pub so-dashed : (k n : ℕ) {b : List ℕ} {at : ℕ} {b′ : List ℕ} {i : ℕ} → at + 1 + k ≤ length b → So (set b at dash) (at + 1) (digitsOf k n) b′ i → So b at (wholeText true k n) b′ i
+so-dashed k n {b} {at} h s = so-on {t = dash ∷ []} (record { is = put-byte b at dash (omega arith); place = refl }) (digitsOf k n) (omega (arith, length-digits k n)) s
 
-pub so-plain : (k n : ℕ) {b : List ℕ} {at : ℕ} {b₁ : List ℕ} {i : ℕ} {neg : Bool} → neg ≡ false → So b at (digitsOf k n) b₁ i → So b at (wholeText neg k n) b₁ i
-so-plain k n {b} {at} {b₁} {i} e s = subst (λ (t : Bool). So b at (wholeText t k n) b₁ i) (sym e) s
+-- the sign that was tested
+pub so-tested : (k n : ℕ) {b : List ℕ} {at : ℕ} {b′ : List ℕ} {i : ℕ} {neg t : Bool} → neg ≡ t → So b at (wholeText t k n) b′ i → So b at (wholeText neg k n) b′ i
+so-tested k n {b} {at} {b′} {i} e s = subst (λ (t : Bool). So b at (wholeText t k n) b′ i) (sym e) s
 
 -- a year, and a month and a day with a dash before each
 module _ (neg : Bool) (ky n km m kd d : ℕ) {b b₁ b₂ b₃ : List ℕ} {i₁ i₂ i₃ : ℕ} (h : wholeWidth neg ky + km + kd + 2 ≤ length b)

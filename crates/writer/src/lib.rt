@@ -1,6 +1,7 @@
 // Numbers and year-month-day texts, written into a buffer that is lent. Each call answers for any buffer and any place.
 
 ghost use mathlib.Core.Path.{_≡_};
+ghost use mathlib.Core.Bool.{true};
 ghost use Prim.Native.Nat.{_+_, _≤_};
 ghost use lib.ListN.{length};
 ghost use lib.Dec.{leb};
@@ -51,14 +52,22 @@ fn put_digits(buf: &mut [u8], at: usize, n: u64, k: usize) -> usize
     at + k
 }
 
+// A `-` and the last k digits of n, as in a negative number, or in a date before the month and the day.
+fn put_dashed(buf: &mut [u8], at: usize, n: u64, k: usize) -> usize
+    requires { ⌜ at + 1 + k ≤ length (now buf) ⌝ }
+    ensures { λ r. ⌜ So (now (buf .entry)) at (wholeText true k n) (now (buf .exit)) r ⌝ }
+{
+    buf[at] = 45;
+    put_digits(buf, at + 1, n, k)
+}
+
 // A number with its sign: k is the width of its magnitude n.
 fn put_signed(buf: &mut [u8], at: usize, negative: bool, n: u64, k: usize) -> usize
     requires { ⌜ at + wholeWidth negative k ≤ length (now buf) ⌝ }
     ensures { λ r. ⌜ So (now (buf .entry)) at (wholeText negative k n) (now (buf .exit)) r ⌝ }
 {
     if negative {
-        buf[at] = 45;
-        put_digits(buf, at + 1, n, k)
+        put_dashed(buf, at, n, k)
     } else {
         put_digits(buf, at, n, k)
     }
@@ -108,7 +117,7 @@ pub fn put_whole(buf: &mut [u8], at: usize, x: i64) -> Written
     put_at(buf, at, negative, n)
 }
 
-// The text of a date at the front of the buffer: the answer tells its length. The `-` before a month and a day is put as that of a negative number is.
+// The text of a date at the front of the buffer: the answer tells its length.
 pub fn write_ymd(buf: &mut [u8], year: i32, month: u32, day: u32) -> Written
     ensures { λ r. ⌜ WriteYmd year month day (now (buf .entry)) (now (buf .exit)) r ⌝ }
 {
@@ -125,7 +134,7 @@ pub fn write_ymd(buf: &mut [u8], year: i32, month: u32, day: u32) -> Written
         return Written::Refused(numbertext::refusal(18, 0, size as u32));
     }
     let second = put_signed(buf, 0, negative, n, ky);
-    let third = put_signed(buf, second, true, m, km);
-    let end = put_signed(buf, third, true, d, kd);
+    let third = put_dashed(buf, second, m, km);
+    let end = put_dashed(buf, third, d, kd);
     Written::Done(end)
 }

@@ -57,8 +57,8 @@ returns c =
 put-signed-requires : tie.Need-put-signed-requires
 put-signed-requires c κs = search needs
 
-put-signed-requires-2 : tie.Need-put-signed-requires-2
-put-signed-requires-2 c κs =
+put-dashed-requires : tie.Need-put-dashed-requires
+put-dashed-requires c κs =
     let y = c .before .before .before .put-signed in
     omega (
       arith,
@@ -69,10 +69,10 @@ put-signed-requires-2 c κs =
       y .kept .0,
     )
 
-put-signed-requires-3 : tie.Need-put-signed-requires-3
-put-signed-requires-3 c κs =
+put-dashed-requires-2 : tie.Need-put-dashed-requires-2
+put-dashed-requires-2 c κs =
     let y = c .before .before .before .before .before .before .before .put-signed in
-    let m = c .before .before .before .put-signed2 in
+    let m = c .before .before .before .put-dashed in
     omega (
       arith,
       c .before .before .before .before .before .before .before .before .before .if1 .left,
@@ -93,7 +93,7 @@ returns-2 c =
     let a = c .before .before .before .before .before .before .before .before .before .before .before .before .before .before .before .before .before .before .before .before .before .args in
     let r = toZ-ofZ (sfits-of (c .before .before .before .before .before .before .before .before .before .before .before .before .before .before .before .before .before .before .before .widened .ok)) ∙ c .before .before .before .before .before .before .before .before .before .before .before .before .before .before .before .before .before .before .before .widened .ensures ∙ toZ-ofZ (c .before .before .before .before .before .before .before .before .before .before .before .before .before .before .before .before .before .before .before .before .before .fits .year) in
     ymd-wrote (a .year) (a .month) (a .day) (c .before .before .before .before .before .before .before .before .before .before .before .before .before .before .before .before .before .before .is-negative .ensures ∙ ap isNegative r) (c .before .before .before .before .before .before .before .before .before .before .before .before .before .before .before .before .before .magnitude .ensures ∙ ap natAbs r)
-    (c .before .before .before .before .before .before .before .before .before .before .before .before .before .before .before .before .width .ensures .0) (c .before .before .before .before .before .before .before .before .before .before .before .before .before .before .before .width2 .ensures .0) (c .before .before .before .before .before .before .before .before .before .before .before .before .before .before .width3 .ensures .0) (c .before .before .before .before .before .before .before .before .before .before .before .before .before .signed-width .ensures .0) _ (c .before .before .before .before .before .before .before .before .before .before .before .before .if1 .left) (c .before .before .before .before .before .before .before .before .before .before .put-signed .ensures) (c .before .before .before .before .before .before .put-signed2 .ensures) (c .before .before .put-signed3 .ensures)
+    (c .before .before .before .before .before .before .before .before .before .before .before .before .before .before .before .before .width .ensures .0) (c .before .before .before .before .before .before .before .before .before .before .before .before .before .before .before .width2 .ensures .0) (c .before .before .before .before .before .before .before .before .before .before .before .before .before .before .width3 .ensures .0) (c .before .before .before .before .before .before .before .before .before .before .before .before .before .signed-width .ensures .0) _ (c .before .before .before .before .before .before .before .before .before .before .before .before .if1 .left) (c .before .before .before .before .before .before .before .before .before .before .put-signed .ensures) (c .before .before .before .before .before .before .put-dashed .ensures) (c .before .before .put-dashed2 .ensures)
 
 pub write-ymd-spec : {M : Type 1} → statement M
 write-ymd-spec =
@@ -113,7 +113,7 @@ write-ymd-spec =
     refusal-requires
     returns
     put-signed-requires
-    put-signed-requires-2
-    put-signed-requires-3
+    put-dashed-requires
+    put-dashed-requires-2
     same-length
     returns-2)
