@@ -21,13 +21,14 @@ use writer::Written;
 fn row_of(date: Date) -> Row
     ensures { λ r. ⌜ r ≡ rowOf date ⌝ }
 {
+    let day = date.day;
     let weekday = Weekday::for_jdn(date.jdn);
     Row {
         jdn: whole::widened(date.jdn),
         year: whole::widened(date.year),
         ordinal: date.ordinal as u64,
         month: date.month as u64,
-        day: date.day as u64,
+        day: day as u64,
         weekday: weekday as u64,
     }
 }

@@ -17,9 +17,6 @@ widened-requires c κs = search needs
 widened-requires-2 : tie.Need-widened-requires-2
 widened-requires-2 c κs = search needs
 
-cast-t5 : tie.Need-cast-t5
-cast-t5 c = search needs
-
 cast-t6 : tie.Need-cast-t6
 cast-t6 c = search needs
 
@@ -29,12 +26,15 @@ cast-t7 c = search needs
 cast-t8 : tie.Need-cast-t8
 cast-t8 c = search needs
 
+cast-t9 : tie.Need-cast-t9
+cast-t9 c = search needs
+
 returns : tie.Need-returns
 returns c =
-    row-is (c .before .before .before .before .before .before .before .before .before .args .date)
-    (toZ-ofZ (sfits-of (c .before .before .before .before .before .widened .ok)) ∙ c .before .before .before .before .before .widened .ensures ∙ toZ-ofZ (sfits-of (c .before .before .before .before .before .before .struct-told2 .given .1 .1 .1 .1 .1 .1 .0 .1)))
-    (toZ-ofZ (sfits-of (c .before .before .before .widened2 .ok)) ∙ c .before .before .before .widened2 .ensures ∙ toZ-ofZ (sfits-of (c .before .before .before .before .struct-told3 .given .1 .0 .1)))
-    (c .before .before .before .before .before .before .before .for-jdn .ensures ∙ ap weekday (toZ-ofZ (sfits-of (c .before .before .before .before .before .before .before .before .struct-told .given .1 .1 .1 .1 .1 .1 .0 .1))))
+    row-is (c .before .before .before .before .before .before .before .before .args .date)
+    (toZ-ofZ (sfits-of (c .before .before .before .before .widened .ok)) ∙ c .before .before .before .before .widened .ensures ∙ toZ-ofZ (sfits-of (c .before .before .before .before .before .struct-told2 .given .1 .1 .1 .1 .1 .1 .0 .1)))
+    (toZ-ofZ (sfits-of (c .before .before .widened2 .ok)) ∙ c .before .before .widened2 .ensures ∙ toZ-ofZ (sfits-of (c .before .before .before .struct-told3 .given .1 .0 .1)))
+    (c .before .before .before .before .before .before .for-jdn .ensures ∙ ap weekday (toZ-ofZ (sfits-of (c .before .before .before .before .before .before .before .struct-told .given .1 .1 .1 .1 .1 .1 .0 .1))))
 
 pub row-of-spec : {M : Type 1} → statement M
 row-of-spec =
@@ -43,8 +43,8 @@ row-of-spec =
     for-jdn-requires
     widened-requires
     widened-requires-2
-    cast-t5
     cast-t6
     cast-t7
     cast-t8
+    cast-t9
     returns)
