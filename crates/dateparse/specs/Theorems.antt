@@ -3,10 +3,9 @@
 -- two dates (`one-day`). The year-month-day text of each 32-bit day reads back to that day (`reads-back`), and has at most 14 bytes.
 -- And each promise allows one result.
 -- Assumes nothing.
-use mathlib.Core.Path.{_≡_, refl, sym, _∙_, ap, subst}
-use mathlib.Core.Bool.{Bool, true, false}
+use mathlib.Core.Path.{_≡_, sym, _∙_, ap, subst}
 use mathlib.Core.List.{List}
-use Prim.Native.Nat.{ℕ, _≤_, _<_, _^_}
+use Prim.Native.Nat.{ℕ, _≤_}
 use native.Mathlib.Omega.{arith}
 use lib.IntN.{ℤ, pos, negsuc}
 use lib.Signed.{_≤ℤ_}
@@ -17,7 +16,6 @@ use Rattle.days.specs.Calendars.{accepted-rises, labels-proper}
 use Rattle.days.specs.Years.{year-from, year-to, year-fits, year-short, day-to}
 use Rattle.calendar.specs.declared.Calendar.{Calendar}
 use Rattle.calendar.specs.declared.Date.{Date}
-use Rattle.refusals.specs.declared.Refusal.{Refusal}
 use Rattle.calendar.specs.declared.Dated.{Dated}
 use Rattle.calendar.specs.declared.Dated.the-variants as Dated′
 use Rattle.calendar.specs.Calendars.{meant, labels, Accepted, IsRecord, Genuine}
@@ -25,12 +23,12 @@ use Rattle.calendar.specs.Rows.{One, refuses, passes, unless-one}
 use Rattle.calendar.specs.Promise.{AtYmd, AtOrdinal}
 use Rattle.calendar.specs.One.{record-one, at-ymd-one, at-ordinal-one}
 use Rattle.calendar.specs.Theorems.{IsRecordOf, ymd-accepts, ymd-only, ordinal-accepts, ordinal-only}
-use Rattle.writer.specs.Writing.{YmdDecimal, WriteYmd}
+use Rattle.writer.specs.Writing.{YmdDecimal}
 use Rattle.writer.specs.Theorems as W
 use Rattle.writer.specs.declared.Written.{Written}
-use Rattle.datetext.specs.Grammar.{Month, OrdinalText, YmdText, Fault}
+use Rattle.datetext.specs.Grammar.{Month, OrdinalText, YmdText}
 use Rattle.datetext.specs.Theorems as T
-use Rattle.dateparse.specs.Promise.{placedAt, placeOf, ByText, by-fault, by-ordinal, by-ymd, ParseDate, WriteDate}
+use Rattle.dateparse.specs.Promise.{placedAt, ByText, by-fault, by-ordinal, by-ymd, ParseDate, WriteDate}
 
 -- ---- Each promise allows one result
 by-text-one : (c : Calendar) (s : List ℕ) → One (ByText c s)

@@ -1,11 +1,10 @@
 -- Numbers written one after another into a lent buffer, and a whole line of them.
 -- Assumes nothing.
-use Prim.Native.Nat.{ℕ, zero, suc, _+_, _/_, _%_, _≤_, _<_, _^_}
+use Prim.Native.Nat.{ℕ, suc, _+_, _/_, _%_, _≤_, _<_, _^_}
 use mathlib.Core.Path.{_≡_, refl, sym, _∙_, ap, ap₂, subst}
 use mathlib.Core.Bool.{Bool, true, false}
 use mathlib.Core.List.{List, [], _∷_, _++_, append-assoc}
 use native.Mathlib.Omega.{arith}
-use native.Mathlib.Nat.{div-div-eq-div-mul}
 use lib.ListN.{length, getD, take, drop, set, length-append, length-set}
 use lib.Seq.{take-suc, take-all, take-at, length-take-le}
 use lib.IntN.{ℤ, pos, natAbs}
@@ -13,10 +12,10 @@ use Rattle.whole.specs.Edge.{isNegative}
 use Rattle.numbertext.specs.Numerals.{dash, refusal}
 use Rattle.refusals.specs.declared.Refusal.{Refusal}
 use Rattle.writer.specs.Writing.{WholeDecimal, put, Puts, Writes}
-use Rattle.writer.specs.Decimals.{digitsOf, length-digits, Width, width-few, decimal-of, counting-start, counting-step}
-use Rattle.writer.specs.Puts.{put-none, put-byte, put-then, length-put, So, so-on, wrote, left-alone, wholeText, Signs, whole-text}
+use Rattle.writer.specs.Decimals.{digitsOf, length-digits, width-few, decimal-of, counting-start, counting-step}
+use Rattle.writer.specs.Puts.{put-none, put-byte, put-then, So, so-on, wrote, left-alone, Signs, whole-text}
 use Rattle.writer.specs.declared.Written.{Written}
-use Rattle.linetext.specs.Line.{newline, tab, mark, Columns, rowColumns, refusalColumns, of-row, of-refusal, Ended, ended, LineOut, Copies, copied, no-room}
+use Rattle.linetext.specs.Line.{newline, tab, mark, Columns, rowColumns, refusalColumns, of-row, of-refusal, Ended, ended, LineOut, Copies, copied}
 use Rattle.linetext.specs.declared.Row.{Row}
 use Rattle.linetext.specs.declared.Line.{Line}
 use Rattle.linetext.specs.declared.Line.the-variants as Line′

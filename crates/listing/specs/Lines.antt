@@ -2,7 +2,6 @@
 -- What the answer to a line is stands in `Entry` of the crate `entry`.
 -- Assumes nothing.
 use Prim.Native.Nat.{ℕ, _<_}
-use mathlib.Core.Path.{_≡_}
 use mathlib.Core.List.{List, [], _∷_, _++_}
 use lib.ListN.{length}
 use Rattle.days.specs.DayByDay.{weekday}

@@ -1,6 +1,6 @@
 -- Two results that a promise of the listing allows for one input are equal; and an input has one listing.
 -- Assumes nothing.
-use Prim.Native.Nat.{ℕ, _+_, _≤_, _<_}
+use Prim.Native.Nat.{ℕ, _+_}
 use mathlib.Core.Path.{_≡_, refl, sym, _∙_, ap, ap₂, subst}
 use mathlib.Core.List.{List, [], _∷_, _++_}
 use native.Mathlib.Omega.{arith}
@@ -9,7 +9,7 @@ use Rattle.calendar.specs.declared.Dated.{Dated}
 use Rattle.writer.specs.Writing.{put, Writes}
 use Rattle.writer.specs.Theorems.{writes-one}
 use Rattle.writer.specs.declared.Written.{Written}
-use Rattle.entry.specs.Entry.{Without, LineAnswer}
+use Rattle.entry.specs.Entry.{LineAnswer}
 use Rattle.entry.specs.One.{parted-one, never-parted, line-answer-one}
 use Rattle.linetext.specs.Line.{newline, Ended}
 use Rattle.linetext.specs.One.{ended-one}

@@ -7,13 +7,10 @@
 use Prim.Native.Nat.{ℕ, _+_, _-_, _≤_, _<_}
 use mathlib.Core.Path.{_≡_, refl, sym, _∙_, ap, ap₂, subst}
 use mathlib.Core.List.{List, [], _∷_, _++_, append-assoc, append-nil}
-use mathlib.Core.Logic.{⊎-elim}
 use native.Mathlib.Omega.{arith}
-use lib.ListN.{length, take, drop, length-append, length-drop}
+use lib.ListN.{length, take, drop, length-append}
 use lib.Seq.{take-at, drop-drop, drop-at, length-take-le, drop-length}
-use Rattle.whole.specs.Tests.{lt-or-ge}
 use Rattle.calendar.specs.Rows.{refuses}
-use Rattle.calendar.specs.declared.Dated.{Dated}
 use Rattle.writer.specs.Writing.{put}
 use Rattle.writer.specs.Puts.{put-none, put-then, length-put}
 use Rattle.entry.specs.Entry.{Without, LineAnswer}
