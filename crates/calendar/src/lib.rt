@@ -136,7 +136,7 @@ fn refused_reformation(number: u32, r: i32) -> Reformed
 fn refused_year(year: i32) -> Dated
     ensures { λ r. ⌜ r ≡ refused 7 year ⌝ }
 {
-    Dated::Refused(refusal_of(7, widened(year)))
+    Dated::Refused(refusals::outside_32_bits(year))
 }
 
 // ---- Calendars

@@ -2,21 +2,18 @@
 -- Assumes nothing.
 use mathlib.Core.Path.{_∙_, ap}
 use Prim.Native.Nat.{_-_}
-use borrow.Author.Needs.{needs, sfits-of}
+use borrow.Author.Needs.{needs}
 use mir.Facts.{toZ-ofZ}
-use Rattle.calendar.specs.Promise.{refusal}
+use Rattle.calendar.specs.Promise.{refused}
 use Rattle.calendar.specs.declared.Dated.the-variants as Dated′
 use Rattle.calendar.proofs.refused_year.Statement.{statement}
 use Rattle.calendar.proofs.refused_year.Tie as tie
 
-widened-requires : tie.Need-widened-requires
-widened-requires c κs = search needs
-
-refusal-of-requires : tie.Need-refusal-of-requires
-refusal-of-requires c κs = search needs
+outside-32-bits-requires : tie.Need-outside-32-bits-requires
+outside-32-bits-requires c κs = search needs
 
 returns : tie.Need-returns
-returns c = ap Dated′.Refused (c .refusal-of .ensures ∙ ap (refusal 7) (toZ-ofZ (sfits-of (c .before .widened .ok)) ∙ c .before .widened .ensures ∙ toZ-ofZ (c .before .before .fits .year)))
+returns c = ap Dated′.Refused (c .outside-32-bits .ensures) ∙ ap (refused 7) (toZ-ofZ (c .before .fits .year))
 
 pub refused-year-spec : {M : Type 1} → statement M
-refused-year-spec = tie.close (tie.spec widened-requires refusal-of-requires returns)
+refused-year-spec = tie.close (tie.spec outside-32-bits-requires returns)

@@ -1,0 +1,2 @@
+-- Refusals by their three numbers.
+pub mod Refusals
