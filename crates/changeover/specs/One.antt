@@ -31,6 +31,13 @@ not-below y {r} {m} {d} {k} g a n = never (number J.leapAt J.start (heldYear y) 
     never : (i : ℕ) → i ≡ k → r ≤ i → ⊥
     never i e h = omega arith
 
+-- a Gregorian day from r on is not before r
+not-in-gap : (y : ℕ) {r m d k o : ℕ} → r ≤ k → At G.leapAt G.start k (heldYear y) m d o → number G.leapAt G.start (heldYear y) m d < r → ⊥
+not-in-gap y {r} {m} {d} {k} g a h = never (number G.leapAt G.start (heldYear y) m d) (at-number a) h
+  where
+    never : (i : ℕ) → i ≡ k → i < r → ⊥
+    never i e f = omega arith
+
 pub finds-one : (r y m d : ℕ) (a b : Found) → Finds r y m d a → Finds r y m d b → a ≡ b
 finds-one r y m d a b (finds-old g s) (finds-old h t) = ap Found′.At (same-spot y s t)
 finds-one r y m d a b (finds-old g s) (finds-new h t n) = absurd (not-below y g s n)
@@ -38,16 +45,10 @@ finds-one r y m d a b (finds-old g s) (finds-gap t n h) = absurd (not-below y g 
 finds-one r y m d a b (finds-old g s) (finds-none t n) = absurd (not-below y g s n)
 finds-one r y m d a b (finds-new g s n) (finds-old h t) = absurd (not-below y h t n)
 finds-one r y m d a b (finds-new g s n) (finds-new h t k) = ap Found′.At (same-spot y s t)
-finds-one r y m d a b (finds-new {k} g s n) (finds-gap t i h) = absurd (never (number G.leapAt G.start (heldYear y) m d) (at-number s) h)
-  where
-    never : (j : ℕ) → j ≡ k → j < r → ⊥
-    never j e f = omega arith
+finds-one r y m d a b (finds-new g s n) (finds-gap t i h) = absurd (not-in-gap y g s h)
 finds-one r y m d a b (finds-new g s n) (finds-none t i) = absurd (t (s .there))
 finds-one r y m d a b (finds-gap s n g) (finds-old h t) = absurd (not-below y h t (λ i. n))
-finds-one r y m d a b (finds-gap s n g) (finds-new {k} h t i) = absurd (never (number G.leapAt G.start (heldYear y) m d) (at-number t) g)
-  where
-    never : (j : ℕ) → j ≡ k → j < r → ⊥
-    never j e f = omega arith
+finds-one r y m d a b (finds-gap s n g) (finds-new h t i) = absurd (not-in-gap y h t g)
 finds-one r y m d a b (finds-gap s n g) (finds-gap t i h) = refl
 finds-one r y m d a b (finds-gap s n g) (finds-none t i) = absurd (t s)
 finds-one r y m d a b (finds-none s n) (finds-old h t) = absurd (not-below y h t n)
