@@ -197,11 +197,9 @@ module _ (c : Calendar) {r : ℕ} (runs : Runs (meant c) r) {y m d : ℕ} {z : �
   found-row (finds-old g a) i = found-on c runs (heldYear y) e (old g a) i
   found-row (finds-new g a n) i = found-on c runs (heldYear y) e (new g a) i
 
-  pub skipped-row : Finds r y m d Found′.Skipped → ByLabel c z m d (refused 5 (pos d))
-  skipped-row (finds-gap t u v) = let s = in-gap runs (heldYear y) m d e h t u v in passes (λ n. n .1 s) (refuses s)
-
-  pub missing-row : Finds r y m d Found′.Nowhere → ByLabel c z m d (refused 4 (pos d))
-  missing-row (finds-none n l) = refuses (on-none runs (heldYear y) m d e h n l)
+  pub refused-row : {f : Refusal} → Finds r y m d (Found′.Refused f) → ByLabel c z m d (Dated′.Refused f)
+  refused-row (finds-gap t u v) = let s = in-gap runs (heldYear y) m d e h t u v in passes (λ n. n .1 s) (refuses s)
+  refused-row (finds-none n l) = refuses (on-none runs (heldYear y) m d e h n l)
 
 -- ---- A day that is found, in 32 bits
 pub given-held : (c : Calendar) {k : ℕ} {n z : ℤ} {d : Date} → Lowers k (DayNumber′.Day n) → IsRecord c n d → Given c z (day k) (Dated′.Date d)

@@ -10,6 +10,7 @@ use Rattle.calendar.specs.declared.Calendar.{Calendar}
 use Rattle.calendar.specs.declared.Calendar.the-variants as Calendar′
 use Rattle.calendar.specs.declared.Date.{Date}
 use Rattle.refusals.specs.declared.Refusal.{Refusal}
+use Rattle.refusals.specs.Refusals as R
 use Rattle.calendar.specs.declared.Reformed.{Reformed}
 use Rattle.calendar.specs.declared.Reformed.the-variants as Reformed′
 use Rattle.calendar.specs.declared.Dated.{Dated}
@@ -27,7 +28,7 @@ use Rattle.calendar.specs.Rows.{Unless, If, Answers}
 
 -- ---- Refusals: number and value; the place is 0 in calls without a text
 abbrev pub refusal : ℕ → ℤ → Refusal
-refusal n v = record { number = n; place = 0; value = v }
+refusal n v = R.refusal n 0 v
 
 -- 16: a record or a calendar that no accepted call gives
 abbrev pub made-up : Refusal

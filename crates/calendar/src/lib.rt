@@ -7,13 +7,13 @@ ghost use Rattle.days.specs.DayByDay.{weekday, JulianStyle, GregorianStyle};
 ghost use mathlib.Core.Bool.{not};
 ghost use Prim.Native.Nat.{_-_, _≤_};
 ghost use Rattle.calendar.specs.Calendars.{isReforming, styleIs};
-ghost use Rattle.calendar.specs.Promise.{refusal, refused, refusedReformation, Reforms, AtJdn, AtYmd, AtOrdinal, Next, ConvertsTo, IsGenuine, TellsCalendar, TellsDate, CountsDate, ReformationOf, reformDay, LastJulian, FirstGregorian};
+ghost use Rattle.calendar.specs.Promise.{refused, refusedReformation, Reforms, AtJdn, AtYmd, AtOrdinal, Next, ConvertsTo, IsGenuine, TellsCalendar, TellsDate, CountsDate, ReformationOf, reformDay, LastJulian, FirstGregorian};
 ghost use Rattle.calendar.specs.Natural.{SwitchIs, ReformDateOf, fieldsOf, JulianStyleIs};
 use fields::Fields;
 use reformation::Judgement;
 pub use refusals::Refusal;
+pub use refusals::refusal_of;
 pub use weekday::Weekday;
-use whole::counted;
 use whole::lowered;
 use whole::raised;
 use whole::widened;
@@ -103,17 +103,7 @@ pub fn switch_of(calendar: Calendar) -> Switch
     }
 }
 
-// ---- Refusals, in calls without a text
-
-pub fn refusal_of(number: u32, value: i64) -> Refusal
-    ensures { λ r. ⌜ r ≡ refusal number value ⌝ }
-{
-    Refusal {
-        number: number,
-        place: 0,
-        value: value,
-    }
-}
+// ---- Refusals
 
 fn made_up() -> Dated
     ensures { λ r. ⌜ r ≡ refused 16 (pos 0) ⌝ }
@@ -124,7 +114,7 @@ fn made_up() -> Dated
 fn refused_count(number: u32, value: u32) -> Dated
     ensures { λ r. ⌜ r ≡ refused number (pos value) ⌝ }
 {
-    Dated::Refused(refusal_of(number, counted(value)))
+    Dated::Refused(refusals::refusal_with(number, value))
 }
 
 fn refused_reformation(number: u32, r: i32) -> Reformed

@@ -134,8 +134,7 @@ pub fn on_label(calendar: Calendar, switch: u64, year: i32, month: u32, day: u32
 {
     match changeover::find(switch, whole::raised(year), month, day) {
         Found::At(s) => given(calendar, switch, s),
-        Found::Skipped => crate::refused_count(5, day),
-        Found::Nowhere => crate::refused_count(4, day),
+        Found::Refused(refusal) => Dated::Refused(refusal),
     }
 }
 

@@ -5,6 +5,8 @@ use mathlib.Core.Bool.{Bool}
 use Prim.Native.Nat.{ℕ, _+_, _-_, _/_, _<_, _≤_}
 use native.Mathlib.Omega.{arith}
 use native.Mathlib.Numerals.{add-one}
+use lib.IntN.{pos}
+use Rattle.refusals.specs.Refusals.{refusal}
 use Rattle.days.specs.DayByDay as D
 use Rattle.days.specs.DayByDay.{monthLength}
 use Rattle.days.specs.Held.{HeldYear}
@@ -79,12 +81,12 @@ module _ {r y m d t : ℕ} {b : Bool} (h : HeldYear (heldYear y)) where
   pub new-found : {s : S.Spot} → b ≡ G.leapAt (heldYear y) → t ≡ G.start (heldYear y) → Reads b t y m d (Read′.At s) → r ≤ s .held → ReadsBelow r y m d Read′.Nothing → Finds r y m d (Found′.At s)
   new-found e f (reads-at v q) g (below-none n) = finds-new g (read-at G.leapAt G.start y m d h e f v q) n
 
-  pub gap-found : {s : S.Spot} → b ≡ G.leapAt (heldYear y) → t ≡ G.start (heldYear y) → Reads b t y m d (Read′.At s) → s .held < r → ReadsBelow r y m d Read′.Nothing → Finds r y m d Found′.Skipped
+  pub gap-found : {s : S.Spot} → b ≡ G.leapAt (heldYear y) → t ≡ G.start (heldYear y) → Reads b t y m d (Read′.At s) → s .held < r → ReadsBelow r y m d Read′.Nothing → Finds r y m d (Found′.Refused (refusal 5 0 (pos d)))
   gap-found e f (reads-at v q) g (below-none n) =
       let i : There G.leapAt (heldYear y) m d = read-there G.leapAt G.start y m d h e f v in
       finds-gap i (n (there-too (heldYear y) m d i)) (subst (λ (n : ℕ). n < r) (sym (at-number (read-at G.leapAt G.start y m d h e f v q))) g)
 
-  pub none-found : b ≡ G.leapAt (heldYear y) → t ≡ G.start (heldYear y) → Reads b t y m d Read′.Nothing → ReadsBelow r y m d Read′.Nothing → Finds r y m d Found′.Nowhere
+  pub none-found : b ≡ G.leapAt (heldYear y) → t ≡ G.start (heldYear y) → Reads b t y m d Read′.Nothing → ReadsBelow r y m d Read′.Nothing → Finds r y m d (Found′.Refused (refusal 4 0 (pos d)))
   none-found e f (reads-none n) (below-none l) = finds-none (read-none G.leapAt G.start y m d h e f n) l
 
 -- no Julian day of a year that begins from r on is before r

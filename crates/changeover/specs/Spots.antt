@@ -3,6 +3,8 @@
 use mathlib.Core.Path.{_≡_}
 use mathlib.Core.Bool.{Bool}
 use Prim.Native.Nat.{ℕ, _+_, _-_, _≤_, _<_}
+use lib.IntN.{pos}
+use Rattle.refusals.specs.Refusals.{refusal}
 use Rattle.days.specs.DayByDay.{monthLength}
 use Rattle.days.specs.Held.{HeldYear}
 use Rattle.days.specs.Julian as J
@@ -56,9 +58,10 @@ pub data ReadsBelow (r y m d : ℕ) : Read → Type 0 where
   below-at : {k o : ℕ} → k < r → At J.leapAt J.start k (heldYear y) m d o → ReadsBelow r y m d (Read′.At (spot k y o m d))
   below-none : NoneBelow r y m d → ReadsBelow r y m d Read′.Nothing
 
--- the day of a label in the calendar: its Julian day where that is before r, and else its Gregorian day where that is not
+-- the day of a label in the calendar: its Julian day where that is before r, and else its Gregorian day where that is not; 5 where it is
+-- skipped, and 4 where it is nowhere
 pub data Finds (r y m d : ℕ) : Found → Type 0 where
   finds-old : {k o : ℕ} → k < r → At J.leapAt J.start k (heldYear y) m d o → Finds r y m d (Found′.At (spot k y o m d))
   finds-new : {k o : ℕ} → r ≤ k → At G.leapAt G.start k (heldYear y) m d o → NoneBelow r y m d → Finds r y m d (Found′.At (spot k y o m d))
-  finds-gap : There G.leapAt (heldYear y) m d → r ≤ number J.leapAt J.start (heldYear y) m d → number G.leapAt G.start (heldYear y) m d < r → Finds r y m d Found′.Skipped
-  finds-none : ¬ There G.leapAt (heldYear y) m d → NoneBelow r y m d → Finds r y m d Found′.Nowhere
+  finds-gap : There G.leapAt (heldYear y) m d → r ≤ number J.leapAt J.start (heldYear y) m d → number G.leapAt G.start (heldYear y) m d < r → Finds r y m d (Found′.Refused (refusal 5 0 (pos d)))
+  finds-none : ¬ There G.leapAt (heldYear y) m d → NoneBelow r y m d → Finds r y m d (Found′.Refused (refusal 4 0 (pos d)))

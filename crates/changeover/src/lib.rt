@@ -7,6 +7,8 @@ ghost use Rattle.days.specs.Runs.{firstDay};
 ghost use Rattle.inner.specs.Natural.{heldYear};
 ghost use Rattle.changeover.specs.Spots.{Reads, ReadsBelow, Finds, YearSpan};
 use inner::DayOrdinal;
+use refusals::Refusal;
+use refusals::refusal_with;
 
 // ---- The days of a year
 
@@ -55,11 +57,11 @@ pub struct Spot {
 
 pub enum Found {
     At(Spot),
-    Skipped,
-    Nowhere,
+    Refused(Refusal),
 }
 
-// A label is on its Julian day where that is before the switch, and on its Gregorian day where that is not before it.
+// A label is on its Julian day where that is before the switch, and on its Gregorian day where that is not before it. One that is skipped is
+// refused 5, and one that is nowhere 4, with the day of the month.
 pub fn find(switch: u64, year: u32, month: u32, day: u32) -> Found
     ensures { λ f. ⌜ Finds switch year month day f ⌝ }
 {
@@ -74,12 +76,12 @@ pub fn find(switch: u64, year: u32, month: u32, day: u32) -> Found
                 day,
             );
             match new {
-                Read::Nothing => Found::Nowhere,
+                Read::Nothing => Found::Refused(refusal_with(4, day)),
                 Read::At(t) => {
                     if switch <= t.held {
                         return Found::At(t);
                     }
-                    Found::Skipped
+                    Found::Refused(refusal_with(5, day))
                 }
             }
         }

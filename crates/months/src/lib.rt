@@ -3,10 +3,9 @@
 // and Gregorian ones from it on.
 
 ghost use mathlib.Core.Path.{_≡_};
-ghost use lib.IntN.{pos};
 ghost use Prim.Native.Nat.{_+_, _<_};
 ghost use Rattle.inner.specs.Natural.{heldYear};
-ghost use Rattle.calendar.specs.Promise.{refusal, Month};
+ghost use Rattle.calendar.specs.Promise.{Month};
 ghost use Rattle.months.specs.Promise.{YearLengthOf, Len, FirstDayOf, LastDayOf, Contains, DayOrdinalOf, NthDay, NthDate};
 ghost use Rattle.months.specs.Natural.{Shapes, ShapeIn, MonthIn, Inside, dayIn, Findable, Finds};
 use calendar::Calendar;
@@ -15,11 +14,10 @@ use calendar::Dated;
 use calendar::Refusal;
 use calendar::Switch;
 use calendar::Told;
-use calendar::refusal_of;
 use calendar::switch_of;
 use changeover::year_span;
 use inner::DayOrdinal;
-use whole::counted;
+use refusals::refusal_with;
 use whole::raised;
 
 // ---- Years
@@ -35,12 +33,6 @@ pub fn year_length(calendar: Calendar, year: i32) -> Counted
             Counted::Number((span.past - span.first) as u32)
         }
     }
-}
-
-fn refusal_with(number: u32, value: u32) -> Refusal
-    ensures { λ r. ⌜ r ≡ refusal number (pos value) ⌝ }
-{
-    refusal_of(number, counted(value))
 }
 
 // ---- Months

@@ -1,6 +1,7 @@
 // What every refused call answers.
 
 ghost use mathlib.Core.Path.{_≡_};
+ghost use lib.IntN.{pos};
 ghost use Rattle.refusals.specs.Refusals.{refusal};
 
 // Its number, the place in a text that it is about, and the value that was at fault.
@@ -10,13 +11,27 @@ pub struct Refusal {
     pub value: i64,
 }
 
+// In a call without a text: the place is 0.
+pub fn refusal_of(number: u32, value: i64) -> Refusal
+    ensures { λ r. ⌜ r ≡ refusal number 0 value ⌝ }
+{
+    Refusal {
+        number: number,
+        place: 0,
+        value: value,
+    }
+}
+
+// The same, of a value that is a count.
+pub fn refusal_with(number: u32, count: u32) -> Refusal
+    ensures { λ r. ⌜ r ≡ refusal number 0 (pos count) ⌝ }
+{
+    refusal_of(number, whole::counted(count))
+}
+
 // A date exists, and 32 bits do not hold its day number. This is about the date and not about a field, so it has no place in a text.
 pub fn outside_32_bits(year: i32) -> Refusal
     ensures { λ r. ⌜ r ≡ refusal 7 0 year ⌝ }
 {
-    Refusal {
-        number: 7,
-        place: 0,
-        value: whole::widened(year),
-    }
+    refusal_of(7, whole::widened(year))
 }

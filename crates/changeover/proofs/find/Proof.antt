@@ -42,21 +42,27 @@ returns c =
 returns-2 : tie.Need-returns-2
 returns-2 c = old-found (rw (c .before .s .given .1) at (c .before .before .before .julian-below .ensures))
 
+refusal-with-requires : tie.Need-refusal-with-requires
+refusal-with-requires c κs = search needs
+
+refusal-with-requires-2 : tie.Need-refusal-with-requires-2
+refusal-with-requires-2 c κs = search needs
+
 returns-3 : tie.Need-returns-3
 returns-3 c =
-    let n = c .before .before in
+    let n = c .before .before .before in
     let e = n .before .before .before in
     let j = e .before .before in
-    none-found (raised-year-held (j .before .fits .year .fits)) (n .before .before .is-gregorian-leap .ensures) (n .before .gregorian-start .ensures)
-    (rw (c .enum-told2 .given .1) at (n .reading .ensures)) (rw (e .enum-told .given .1) at (j .julian-below .ensures))
+    rw (c .refusal-with .ensures) (none-found (raised-year-held (j .before .fits .year .fits)) (n .before .before .is-gregorian-leap .ensures) (n .before .gregorian-start .ensures)
+    (rw (c .before .enum-told2 .given .1) at (n .reading .ensures)) (rw (e .enum-told .given .1) at (j .julian-below .ensures)))
 
 returns-4 : tie.Need-returns-4
 returns-4 c =
-    let n = c .before .before .before .before .before in
+    let n = c .before .before .before .before .before .before in
     let e = n .before .before .before in
     let j = e .before .before in
-    gap-found (raised-year-held (j .before .fits .year .fits)) (n .before .before .is-gregorian-leap .ensures) (n .before .gregorian-start .ensures)
-    (rw (c .before .before .before .new .given .1) at (n .reading .ensures)) (c .if1 .left) (rw (e .enum-told .given .1) at (j .julian-below .ensures))
+    rw (c .refusal-with2 .ensures) (gap-found (raised-year-held (j .before .fits .year .fits)) (n .before .before .is-gregorian-leap .ensures) (n .before .gregorian-start .ensures)
+    (rw (c .before .before .before .before .new .given .1) at (n .reading .ensures)) (c .before .if1 .left) (rw (e .enum-told .given .1) at (j .julian-below .ensures)))
 
 pub find-spec : {M : Type 1} → statement M
 find-spec =
@@ -69,8 +75,10 @@ find-spec =
     gregorian-start-requires
     reading-requires
     enum-told-2
+    refusal-with-requires
     enum-known-new
     returns
+    refusal-with-requires-2
     returns-2
     returns-3
     returns-4)

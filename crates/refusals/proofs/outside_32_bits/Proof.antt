@@ -11,8 +11,11 @@ use Rattle.refusals.proofs.outside_32_bits.Tie as tie
 widened-requires : tie.Need-widened-requires
 widened-requires c κs = search needs
 
+refusal-of-requires : tie.Need-refusal-of-requires
+refusal-of-requires c κs = search needs
+
 returns : tie.Need-returns
-returns c = ap (refusal 7 0) (toZ-ofZ (sfits-of (c .widened .ok)) ∙ c .widened .ensures ∙ toZ-ofZ (c .before .fits .year))
+returns c = c .refusal-of .ensures ∙ ap (refusal 7 0) (toZ-ofZ (sfits-of (c .before .widened .ok)) ∙ c .before .widened .ensures ∙ toZ-ofZ (c .before .before .fits .year))
 
 pub outside-32-bits-spec : {M : Type 1} → statement M
-outside-32-bits-spec = tie.close (tie.spec widened-requires returns)
+outside-32-bits-spec = tie.close (tie.spec widened-requires refusal-of-requires returns)

@@ -7,7 +7,7 @@ use mir.Facts.{toZ-ofZ}
 use Rattle.days.specs.Held.{year}
 use Rattle.inner.specs.Laws.{held-year, raised-year-held}
 use Rattle.inner.specs.Natural.{heldYear}
-use Rattle.calendar.specs.Laws.{found-spot, found-row, skipped-row, missing-row}
+use Rattle.calendar.specs.Laws.{found-spot, found-row, refused-row}
 use Rattle.calendar.proofs.record.on_label.Statement.{statement}
 use Rattle.calendar.proofs.record.on_label.Tie as tie
 
@@ -29,17 +29,8 @@ given-requires c κs =
     let a = n .before .before in
     (a .pre .0, found-spot (a .args .calendar) (a .pre .0) (raised-year-held (n .before .raised .ok)) (year-is (n .before)) (rw (c .before .s .given .1) at (n .find .ensures)))
 
-enum-told : tie.Need-enum-told
-enum-told c = search needs
-
-refused-count-requires : tie.Need-refused-count-requires
-refused-count-requires c κs = search needs
-
-enum-told-2 : tie.Need-enum-told-2
-enum-told-2 c = search needs
-
-refused-count-requires-2 : tie.Need-refused-count-requires-2
-refused-count-requires-2 c κs = search needs
+enum-known-refusal : tie.Need-enum-known-refusal
+enum-known-refusal c = search needs
 
 returns : tie.Need-returns
 returns c =
@@ -51,13 +42,7 @@ returns-2 : tie.Need-returns-2
 returns-2 c =
     let n = c .before .before .before in
     let a = n .before .before in
-    rw (c .refused-count .ensures) (skipped-row (a .args .calendar) (a .pre .0) (raised-year-held (n .before .raised .ok)) (year-is (n .before)) (rw (c .before .enum-told .given .1) at (n .find .ensures)))
-
-returns-3 : tie.Need-returns-3
-returns-3 c =
-    let n = c .before .before .before in
-    let a = n .before .before in
-    rw (c .refused-count2 .ensures) (missing-row (a .args .calendar) (a .pre .0) (raised-year-held (n .before .raised .ok)) (year-is (n .before)) (rw (c .before .enum-told2 .given .1) at (n .find .ensures)))
+    refused-row (a .args .calendar) (a .pre .0) (raised-year-held (n .before .raised .ok)) (year-is (n .before)) (rw (c .before .refusal .given .1) at (n .find .ensures))
 
 pub on-label-spec : {M : Type 1} → statement M
 on-label-spec =
@@ -67,10 +52,6 @@ on-label-spec =
     find-requires
     enum-known-s
     given-requires
-    enum-told
-    refused-count-requires
-    enum-told-2
-    refused-count-requires-2
+    enum-known-refusal
     returns
-    returns-2
-    returns-3)
+    returns-2)
