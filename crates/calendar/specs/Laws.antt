@@ -5,14 +5,11 @@ use mathlib.Core.Bool.{Bool, true, false, not}
 use mathlib.Core.Logic.{_⊎_, inl, inr, ⊎-elim}
 use Prim.Native.Nat.{ℕ, _+_, _-_, _*_, _/_, _<_, _≤_, _^_}
 use native.Mathlib.Omega.{arith}
-use native.Mathlib.Numerals.{add-one}
 use borrow.Author.Tests.{lt-ltb, le-ltb}
 use lib.Dec.{ltb}
-use lib.IntN.{ℤ, pos, sucℤ, predℤ, -ℤ-one}
+use lib.IntN.{ℤ, pos}
 use Rattle.whole.specs.Tests.{lt-or-ge}
-use Rattle.whole.specs.Biased.{unbias, unbias-suc, unbias-back}
-use Rattle.whole.specs.Machine.{unbias-more}
-use Rattle.whole.specs.Edge.{unbias-fits, unbias-fits-only}
+use Rattle.whole.specs.Biased.{unbias}
 use Rattle.days.specs.DayByDay as D
 use Rattle.days.specs.DayByDay.{AcceptedReformation, label, OfYear, Place, Ordinal, DayOrdinal, Is32Bit, Style, JulianStyle, GregorianStyle, style}
 use Rattle.days.specs.Rising.{days-one}
@@ -408,28 +405,6 @@ next-row g f (passes x r) = passes g (passes f r)
 pub converts-row : {d : Date} {c : Calendar} {a : Dated} → Genuine d → AtJdn c (d .jdn) a → ConvertsTo d c a
 converts-row g (refuses x) = refuses (λ p. x (p .1))
 converts-row g (passes x r) = passes (g, x) r
-
--- the days next to a raised one
-pub suc-is : {n : ℤ} (x : ℕ) → unbias (2 ^ 31) x ≡ n → unbias (2 ^ 31) (x + 1) ≡ sucℤ n
-suc-is x e = ap (unbias (2 ^ 31)) (add-one x) ∙ unbias-suc (2 ^ 31) x ∙ ap sucℤ e
-
-pub pred-is : {n : ℤ} (x : ℕ) → 1 ≤ x → unbias (2 ^ 31) x ≡ n → unbias (2 ^ 31) (x - 1) ≡ predℤ n
-pred-is {n} x h e = sym (unbias-back (2 ^ 31) x 1 h) ∙ -ℤ-one (unbias (2 ^ 31) x) ∙ ap predℤ e
-
-pub suc-far : {n : ℤ} (x : ℕ) → unbias (2 ^ 31) x ≡ n → x ≡ 4_294_967_295 → ¬ Is32Bit (sucℤ n)
-suc-far x e h f = omega (arith, unbias-fits-only (2 ^ 31) (x + 1) (subst Is32Bit (sym (suc-is x e)) f))
-
-pub pred-far : {n : ℤ} (x : ℕ) → unbias (2 ^ 31) x ≡ n → x ≡ 0 → ¬ Is32Bit (predℤ n)
-pred-far {n} x e h f = never (unbias-fits-only (2 ^ 31 + 1) 0 (subst Is32Bit (sym is) f))
-  where
-    is : unbias (2 ^ 31 + 1) 0 ≡ predℤ n
-    is = sym (unbias-more (2 ^ 31) 1 0) ∙ -ℤ-one (unbias (2 ^ 31) 0) ∙ ap predℤ (ap (unbias (2 ^ 31)) (sym h) ∙ e)
-
-    never : (2 ^ 31 + 1 ≤ 0 + 2 ^ 31) × (0 < 2 ^ 31 + 1 + 2 ^ 31) → ⊥
-    never p = omega arith
-
-pub raised-fits : {n : ℤ} (x : ℕ) → x < 2 ^ 32 → unbias (2 ^ 31) x ≡ n → Is32Bit n
-raised-fits x h e = subst Is32Bit e (unbias-fits (2 ^ 31) x (omega arith) (omega arith))
 
 -- ---- Styles
 pub julian-style : (c : Calendar) {r : ℕ} → Runs (meant c) r → {n : ℤ} (x : ℕ) → x < 2 ^ 32 → unbias (2 ^ 31) x ≡ n → ltb (heldDay x) r ≡ sameStyle JulianStyle (style (meant c) n)

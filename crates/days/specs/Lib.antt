@@ -22,3 +22,4 @@ pub mod Runs
 pub mod Weekdays
 pub mod KnownDays
 pub mod Years
+pub mod Ends

@@ -1,21 +1,16 @@
 -- Two results that a promise allows for one input are equal: a theorem for each promise.
 -- Assumes nothing.
-use mathlib.Core.Path.{_≡_, refl, subst}
-use mathlib.Core.Bool.{Bool, true, false}
-use lib.IntN.{ℤ}
+use mathlib.Core.Path.{_≡_, subst}
+use mathlib.Core.Bool.{Bool}
 use Rattle.calendar.specs.declared.Date.{Date}
 use Rattle.calendar.specs.Calendars.{IsRecord}
 use Rattle.calendar.specs.Rows.{One, unless-one, if-one}
 use Rattle.calendar.specs.One.{record-one}
-use Rattle.walker.specs.declared.Kind.{Kind}
+use Rattle.ways.specs.declared.Kind.{Kind}
 use Rattle.walker.specs.declared.Walker.{Walker}
-use Rattle.walker.specs.Promise.{gives, toward, holds, EndedAt, Made, made, Makes, Moves, moves, Steps}
-
-pub ended-one : (n : ℤ) → One (EndedAt n)
-ended-one n true true p q = refl
-ended-one n true false p q = absurd (p q)
-ended-one n false true p q = absurd (q p)
-ended-one n false false p q = refl
+use Rattle.ways.specs.One.{ended-one}
+use Rattle.ways.specs.Ways.{gives, toward, holds}
+use Rattle.walker.specs.Promise.{Made, made, Makes, Moves, moves, Steps}
 
 made-one : (k : Kind) (d : Date) → One (Made k d)
 made-one k d a b (made {e = e} p) (made {e = f} q) = let i : e ≡ f = ended-one (gives k (d .jdn)) e f p q in cc

@@ -1,17 +1,10 @@
--- What the private functions say and ask: whether a flag is one that a day can have, and what lies ahead of a genuine walker.
-use mathlib.Core.Bool.{Bool, true, false}
-use lib.IntN.{ℤ}
+-- What the private functions ask: what lies ahead of a genuine walker.
 use Rattle.days.specs.DayByDay.{Is32Bit}
 use Rattle.calendar.specs.declared.Date.{Date}
 use Rattle.calendar.specs.Calendars.{IsRecord}
-use Rattle.walker.specs.declared.Kind.{Kind}
+use Rattle.ways.specs.Ways.{toward}
 use Rattle.walker.specs.declared.Walker.{Walker}
-use Rattle.walker.specs.Promise.{toward, FlagAt, GenuineWalker}
-
--- a walker on day n can have this flag
-abbrev pub FlagFits : Kind → ℤ → Bool → Bool → Type 0
-FlagFits k n e true = FlagAt k n e
-FlagFits k n e false = ¬ FlagAt k n e
+use Rattle.walker.specs.Promise.{GenuineWalker}
 
 -- no day of 32 bits lies ahead
 pub record OnTheLast (w : Walker) : Type 0 where

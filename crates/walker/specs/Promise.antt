@@ -3,65 +3,21 @@
 use mathlib.Core.Path.{_≡_}
 use mathlib.Core.Bool.{Bool, true, false}
 use Prim.Native.Nat.{ℕ}
-use lib.IntN.{ℤ, pos, sucℤ, predℤ}
-use Rattle.days.specs.DayByDay.{Is32Bit}
+use lib.IntN.{pos}
 use Rattle.calendar.specs.declared.Date.{Date}
 use Rattle.calendar.specs.declared.Dated.{Dated}
 use Rattle.calendar.specs.declared.Dated.the-variants as Dated′
 use Rattle.calendar.specs.Calendars.{IsRecord, Genuine}
 use Rattle.calendar.specs.Rows.{Unless, If}
 use Rattle.calendar.specs.Promise.{refused, made-up}
-use Rattle.walker.specs.declared.Kind.{Kind}
-use Rattle.walker.specs.declared.Kind.the-variants.{Later, Earlier, AndLater, AndEarlier}
+use Rattle.ways.specs.declared.Kind.{Kind}
+use Rattle.ways.specs.Ways.{toward, gives, EndedAt, holds, FlagAt}
 use Rattle.walker.specs.declared.Walker.{Walker}
 use Rattle.walker.specs.declared.Walked.{Walked}
 use Rattle.walker.specs.declared.Walked.the-variants as Walked′
 use Rattle.walker.specs.declared.Moved.{Moved}
 
--- ---- Where walkers go
-
--- the day that lies ahead of day n
-abbrev pub toward : Kind → ℤ → ℤ
-toward Later n = sucℤ n
-toward Earlier n = predℤ n
-toward AndLater n = sucℤ n
-toward AndEarlier n = predℤ n
-
--- whether the day that a walker holds is the one that it gives next; else it is the one that it gave last, or was made from
-abbrev pub givesHeld : Kind → Bool
-givesHeld Later = false
-givesHeld Earlier = false
-givesHeld AndLater = true
-givesHeld AndEarlier = true
-
--- the day to give next of a walker that holds day n
-abbrev pub gives : Kind → ℤ → ℤ
-gives Later n = sucℤ n
-gives Earlier n = predℤ n
-gives AndLater n = n
-gives AndEarlier n = n
-
--- a walker with day n to give next is ended exactly if that is no day of 32 bits
-abbrev pub EndedAt : ℤ → Bool → Type 0
-EndedAt n true = ¬ Is32Bit n
-EndedAt n false = Is32Bit n
-
--- the day that is held after day n was given: that day itself where the walker is ended, or is of the kind that holds the day given last;
--- else the day to give next
-abbrev pub holds : Kind → Bool → ℤ → ℤ
-holds k true n = n
-holds Later false n = n
-holds Earlier false n = n
-holds AndLater false n = sucℤ n
-holds AndEarlier false n = predℤ n
-
 -- ---- Genuine walkers
-
--- the flag that a walker holding day n can have: while it is not ended, the day to give next is of 32 bits; once it is ended, no day of
--- 32 bits lies ahead
-abbrev pub FlagAt : Kind → ℤ → Bool → Type 0
-FlagAt k n true = ¬ Is32Bit (toward k n)
-FlagAt k n false = Is32Bit (gives k n)
 
 -- a walker is genuine if its date is, and its flag is one that its day can have; any other is made up
 pub record GenuineWalker (w : Walker) : Type 0 where

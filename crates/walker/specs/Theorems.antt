@@ -16,12 +16,13 @@ use Rattle.calendar.specs.declared.Dated.{Dated}
 use Rattle.calendar.specs.Calendars.{Accepted, IsRecord, Genuine}
 use Rattle.calendar.specs.Rows.{refuses, passes, Unless}
 use Rattle.calendar.specs.Promise.{refused, RecordOf, record-of}
-use Rattle.walker.specs.declared.Kind.{Kind}
-use Rattle.walker.specs.declared.Kind.the-variants.{Later, Earlier, AndLater, AndEarlier}
+use Rattle.ways.specs.declared.Kind.{Kind}
+use Rattle.ways.specs.declared.Kind.the-variants.{Later, Earlier, AndLater, AndEarlier}
 use Rattle.walker.specs.declared.Walker.{Walker}
 use Rattle.walker.specs.declared.Walked.the-variants as Walked′
 use Rattle.walker.specs.declared.Moved.{Moved}
-use Rattle.walker.specs.Promise.{toward, gives, holds, FlagAt, GenuineWalker, walker, made, Makes, moves, Steps}
+use Rattle.ways.specs.Ways.{toward, gives, holds, FlagAt}
+use Rattle.walker.specs.Promise.{GenuineWalker, walker, made, Makes, moves, Steps}
 use Rattle.walker.specs.Laws.{last-gives}
 
 -- ---- Any number of calls

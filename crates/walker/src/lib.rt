@@ -4,23 +4,19 @@
 ghost use mathlib.Core.Path.{_≡_};
 ghost use Rattle.calendar.specs.declared.Dated.the-variants as Dated′;
 ghost use Rattle.calendar.specs.Promise.{Next};
-ghost use Rattle.walker.specs.Promise.{toward, gives, givesHeld, EndedAt, Makes, Steps, unmoved, moved, walker};
-ghost use Rattle.walker.specs.Private.{FlagFits, OnTheLast, OnTheWay};
-ghost use Rattle.walker.specs.declared.Kind.the-variants as Kind′;
+ghost use Rattle.ways.specs.Ways.{toward};
+ghost use Rattle.walker.specs.Promise.{Makes, Steps, unmoved, moved, walker};
+ghost use Rattle.walker.specs.Private.{OnTheLast, OnTheWay};
+ghost use Rattle.ways.specs.declared.Kind.the-variants as Kind′;
 use calendar::Date;
 use calendar::Dated;
 use calendar::Refusal;
 use calendar::refusal_of;
-use whole::raised;
-
-// Where a walker goes, and whether it gives the date first that it was made from. One that does holds the date to give next; one that
-// does not holds the date that it gave last.
-pub enum Kind {
-    Later,
-    Earlier,
-    AndLater,
-    AndEarlier,
-}
+pub use ways::Kind;
+use ways::ended_when_made;
+use ways::flag_fits;
+use ways::gives_held;
+use ways::is_last;
 
 pub struct Walker {
     pub kind: Kind,
@@ -54,40 +50,7 @@ fn ahead(kind: Kind, date: Date) -> Dated
     }
 }
 
-// Whether no day lies ahead.
-fn is_last(kind: Kind, jdn: i32) -> bool
-    ensures { λ b. ⌜ EndedAt (toward kind jdn) b ⌝ }
-{
-    match kind {
-        Kind::Later => raised(jdn) == 4_294_967_295,
-        Kind::Earlier => raised(jdn) == 0,
-        Kind::AndLater => raised(jdn) == 4_294_967_295,
-        Kind::AndEarlier => raised(jdn) == 0,
-    }
-}
-
-fn gives_held(kind: Kind) -> bool
-    ensures { λ b. ⌜ b ≡ givesHeld kind ⌝ }
-{
-    match kind {
-        Kind::Later => false,
-        Kind::Earlier => false,
-        Kind::AndLater => true,
-        Kind::AndEarlier => true,
-    }
-}
-
 // ---- Making a walker
-
-// A walker that gives the date held has at least that one to give.
-fn ended_when_made(kind: Kind, jdn: i32) -> bool
-    ensures { λ b. ⌜ EndedAt (gives kind jdn) b ⌝ }
-{
-    if gives_held(kind) {
-        return false;
-    }
-    is_last(kind, jdn)
-}
 
 fn made(kind: Kind, date: Date) -> Walked
     ensures { λ a. ⌜ Makes kind date a ⌝ }
@@ -154,16 +117,6 @@ fn gave(given: Date, kind: Kind, held: Date, ended: bool) -> Moved
             ended: ended,
         },
     }
-}
-
-// Whether a walker on this day can have this flag: one that is not ended has as much to give as one that is made on this day.
-fn flag_fits(kind: Kind, jdn: i32, ended: bool) -> bool
-    ensures { λ b. ⌜ FlagFits kind jdn ended b ⌝ }
-{
-    if ended {
-        return is_last(kind, jdn);
-    }
-    !ended_when_made(kind, jdn)
 }
 
 // A step of a genuine walker that no date lies ahead of.

@@ -4,8 +4,7 @@ use Prim.Native.Nat.{_-_}
 use borrow.Author.Needs.{needs, sfits-of}
 use mir.Facts.{toZ-ofZ}
 use Rattle.walker.specs.Laws.{flag-right, flag-wrong, flag-made-up, date-made-up, on-the-way, on-the-last}
-use Rattle.walker.specs.Private.{FlagFits}
-use Rattle.walker.specs.Promise.{FlagAt}
+use Rattle.ways.specs.Ways.{FlagAt, FlagFits}
 use Rattle.walker.specs.declared.Walker.{Walker}
 use Rattle.walker.proofs.stepped.Statement.{statement}
 use Rattle.walker.proofs.stepped.Tie as tie

@@ -7,7 +7,8 @@ use borrow.Author.Needs.{needs, sfits-of}
 use mir.Facts.{toZ-ofZ}
 use Rattle.whole.specs.Biased.{unbias}
 use Rattle.calendar.specs.Calendars.{Genuine}
-use Rattle.calendar.specs.Laws.{next-row, pred-far, pred-is, raised-fits}
+use Rattle.days.specs.Ends.{pred-far, pred-is, raised-fits}
+use Rattle.calendar.specs.Laws.{next-row}
 use Rattle.calendar.specs.Rows.{refuses, passes}
 use Rattle.calendar.proofs.Date.pred.Statement.{statement}
 use Rattle.calendar.proofs.Date.pred.Tie as tie

@@ -7,7 +7,8 @@ use borrow.Author.Needs.{needs, sfits-of}
 use mir.Facts.{toZ-ofZ}
 use Rattle.whole.specs.Biased.{unbias}
 use Rattle.calendar.specs.Calendars.{Genuine}
-use Rattle.calendar.specs.Laws.{next-row, suc-far, suc-is, raised-fits}
+use Rattle.days.specs.Ends.{suc-far, suc-is, raised-fits}
+use Rattle.calendar.specs.Laws.{next-row}
 use Rattle.calendar.specs.Rows.{refuses, passes}
 use Rattle.calendar.proofs.Date.succ.Statement.{statement}
 use Rattle.calendar.proofs.Date.succ.Tie as tie

@@ -1,11 +1,11 @@
--- `walker::flag_fits` meets its contract.
+-- `ways::flag_fits` meets its contract.
 -- Assumes nothing.
 use Prim.Native.Nat.{_-_}
 use borrow.Author.Needs.{needs}
 use mir.Facts.{toZ-ofZ}
-use Rattle.walker.specs.Laws.{flag-ended, flag-running}
-use Rattle.walker.proofs.flag_fits.Statement.{statement}
-use Rattle.walker.proofs.flag_fits.Tie as tie
+use Rattle.ways.specs.Laws.{flag-ended, flag-running}
+use Rattle.ways.proofs.flag_fits.Statement.{statement}
+use Rattle.ways.proofs.flag_fits.Tie as tie
 
 is-last-requires : tie.Need-is-last-requires
 is-last-requires c κs = search needs

@@ -1,12 +1,12 @@
--- `walker::ended_when_made` meets its contract.
+-- `ways::ended_when_made` meets its contract.
 -- Assumes nothing.
 use mathlib.Core.Path.{sym, _∙_}
 use Prim.Native.Nat.{_-_}
 use borrow.Author.Needs.{needs}
 use mir.Facts.{toZ-ofZ}
-use Rattle.walker.specs.Laws.{gives-held, gives-ahead}
-use Rattle.walker.proofs.ended_when_made.Statement.{statement}
-use Rattle.walker.proofs.ended_when_made.Tie as tie
+use Rattle.ways.specs.Laws.{gives-held, gives-ahead}
+use Rattle.ways.proofs.ended_when_made.Statement.{statement}
+use Rattle.ways.proofs.ended_when_made.Tie as tie
 
 gives-held-requires : tie.Need-gives-held-requires
 gives-held-requires c κs = search needs

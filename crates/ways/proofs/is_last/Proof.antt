@@ -1,12 +1,12 @@
--- `walker::is_last` meets its contract.
+-- `ways::is_last` meets its contract.
 -- Assumes nothing.
 use mathlib.Core.Path.{_∙_}
 use Prim.Native.Nat.{_-_}
 use borrow.Author.Needs.{needs}
 use mir.Facts.{toZ-ofZ}
-use Rattle.walker.specs.Laws.{last-up, last-down}
-use Rattle.walker.proofs.is_last.Statement.{statement}
-use Rattle.walker.proofs.is_last.Tie as tie
+use Rattle.ways.specs.Laws.{last-up, last-down}
+use Rattle.ways.proofs.is_last.Statement.{statement}
+use Rattle.ways.proofs.is_last.Tie as tie
 
 enum-told : tie.Need-enum-told
 enum-told c = search needs
