@@ -2,22 +2,20 @@
 use mathlib.Core.Path.{_≡_}
 use mathlib.Core.Bool.{Bool}
 use lib.IntN.{ℤ, pos}
-use Prim.Native.Nat.{ℕ, _-_, _<_}
-use Rattle.days.specs.DayByDay.{OfYear, JulianStyle, style}
-use Rattle.days.specs.Held.{day, year, HeldYear}
-use Rattle.days.specs.Numbers.{number}
-use Rattle.days.specs.Runs.{Runs, top}
-use Rattle.inner.specs.Natural.{heldYear, MonthDayAt}
+use Prim.Native.Nat.{ℕ}
+use Rattle.days.specs.DayByDay.{JulianStyle, style}
+use Rattle.days.specs.Held.{day, year}
+use Rattle.days.specs.Runs.{Runs}
+use Rattle.inner.specs.Natural.{heldYear}
 use Rattle.fields.specs.declared.Fields.{Fields}
 use Rattle.calendar.specs.declared.Calendar.{Calendar}
 use Rattle.calendar.specs.declared.Date.{Date}
 use Rattle.calendar.specs.declared.Switch.{Switch}
 use Rattle.calendar.specs.declared.Switch.the-variants as Switch′
 use Rattle.changeover.specs.declared.Spot.{Spot}
-use Rattle.changeover.specs.Spots.{LabelledAt, spot}
 use Rattle.calendar.specs.declared.ReformDate.{ReformDate}
 use Rattle.calendar.specs.declared.ReformDate.the-variants as ReformDate′
-use Rattle.calendar.specs.Calendars.{meant, labels, Accepted, sameStyle}
+use Rattle.calendar.specs.Calendars.{meant, Accepted, sameStyle}
 use Rattle.calendar.specs.Rows.{Unless}
 use Rattle.calendar.specs.Promise.{made-up, ReformRecord}
 
@@ -26,24 +24,9 @@ pub data SwitchIs (c : Calendar) : Switch → Type 0 where
   switches-at : {r : ℕ} → Runs (meant c) r → SwitchIs c (Switch′.At r)
   no-calendar : ¬ Accepted c → SwitchIs c Switch′.MadeUp
 
--- a held day of a raised year of the calendar
-pub record InYear (c : Calendar) (r y k : ℕ) : Type 0 where
-  pub runs : Runs (meant c) r
-  pub year-held : HeldYear (heldYear y)
-  pub of-year : OfYear (year (heldYear y)) (labels c (day k))
-  pub room : k < top
-
-abbrev pub OnSpot : ℕ → Spot → Type 0
-OnSpot r s = LabelledAt r (s .held) (heldYear (s .year)) (s .month) (s .day) (s .ordinal)
-
 -- the record of a spot whose places are those of its own reckoning
 abbrev pub plainRecord : Calendar → Spot → ℤ → Date
 plainRecord c s n = record { calendar = c; year = year (heldYear (s .year)); ordinal = s .ordinal; month = s .month; day = s .day; «day_ordinal» = s .day; jdn = n }
-
--- a spot is of this day, year and ordinal, with the month and the day that the ordinal has
-pub record SpotAt (k y o : ℕ) (leap : Bool) (s : Spot) : Type 0 where
-  pub is : s ≡ spot k y o (s .month) (s .day)
-  pub month-day : MonthDayAt leap o (s .month) (s .day)
 
 -- ---- Of a calendar and of a date
 

@@ -1,0 +1,69 @@
+-- `calendar::record::on_held` meets its contract.
+-- Assumes nothing.
+use borrow.Author.Needs.{needs, sfits-of}
+use mir.Facts.{toZ-ofZ}
+use Rattle.inner.specs.Laws.{held-year}
+use Rattle.inner.specs.Natural.{Lowers}
+use Rattle.inner.specs.declared.DayNumber.the-variants as DayNumber′
+use Rattle.calendar.specs.Laws.{given-held, given-far, given-none}
+use Rattle.calendar.proofs.record.on_held.Statement.{statement}
+use Rattle.calendar.proofs.record.on_held.Tie as tie
+
+number : (c : tie.After-known-told) → Lowers (c .before .before .before .before .args .held) (DayNumber′.Day (c .before .jdn .given .0 .0))
+number c = rw (c .before .jdn .given .1) at (c .before .before .before .day-number .ensures)
+
+day-number-requires : tie.Need-day-number-requires
+day-number-requires c κs = search needs
+
+enum-known-jdn : tie.Need-enum-known-jdn
+enum-known-jdn c = search needs
+
+on-day-requires : tie.Need-on-day-requires
+on-day-requires c κs = c .before .before .before .before .pre
+
+enum-told : tie.Need-enum-told
+enum-told c = search needs
+
+lowered-requires : tie.Need-lowered-requires
+lowered-requires c κs = search needs
+
+refused-year-requires : tie.Need-refused-year-requires
+refused-year-requires c κs = search needs
+
+enum-told-2 : tie.Need-enum-told-2
+enum-told-2 c = search needs
+
+lowered-requires-2 : tie.Need-lowered-requires-2
+lowered-requires-2 c κs = search needs
+
+refused-year-requires-2 : tie.Need-refused-year-requires-2
+refused-year-requires-2 c κs = search needs
+
+returns : tie.Need-returns
+returns c = given-held (c .before .before .before .before .before .args .calendar) (number (c .before)) (rw (toZ-ofZ (sfits-of (c .before .known-told .given .0 .1))) at (c .on-day .ensures))
+
+returns-2 : tie.Need-returns-2
+returns-2 c = absurd (given-none (c .before .before .enum-told .given .1) (c .before .before .before .before .day-number .ensures))
+
+returns-3 : tie.Need-returns-3
+returns-3 c =
+    let a = c .before .before .before .before .before in
+    rw (c .refused-year2 .ensures, toZ-ofZ (sfits-of (c .before .lowered2 .ok)), c .before .lowered2 .ensures, ← held-year (a .args .year))
+    (given-far (a .args .calendar) (rw (c .before .before .enum-told2 .given .1) at (c .before .before .before .before .day-number .ensures)))
+
+pub on-held-spec : {M : Type 1} → statement M
+on-held-spec =
+    tie.close
+    (tie.spec
+    day-number-requires
+    enum-known-jdn
+    on-day-requires
+    enum-told
+    lowered-requires
+    refused-year-requires
+    enum-told-2
+    lowered-requires-2
+    refused-year-requires-2
+    returns
+    returns-2
+    returns-3)
