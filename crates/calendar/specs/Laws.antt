@@ -46,6 +46,8 @@ use Rattle.changeover.specs.declared.Found.the-variants as Found′
 use Rattle.changeover.specs.Spots.{YearSpan, At, LabelledAt, old, new, spot, Finds, finds-old, finds-new, finds-gap, finds-none}
 use Rattle.changeover.specs.Laws.{starts-close, at-number, at-from, at-few, ordinal-sum}
 use Rattle.labels.specs.Labels.{OnSpot}
+use Rattle.neighbours.specs.declared.Neighbour.the-variants as Neighbour′
+use Rattle.neighbours.specs.Neighbours.{IsNeighbour, there, outside}
 use Rattle.refusals.specs.declared.Refusal.{Refusal}
 use Rattle.calendar.specs.Calendars.{meant, labels, Accepted, IsRecord, Genuine, sameStyle, styleIs}
 use Rattle.calendar.specs.Rows.{refuses, passes}
@@ -360,6 +362,13 @@ genuine-refused e (passes a (record-of i)) g = let z : _≡_ {A = ℕ} 0 1 = cc 
 pub next-row : {d : Date} {n : ℤ} {a : Dated} → Genuine d → Is32Bit n → AtJdn (d .calendar) n a → Next d n a
 next-row g f (refuses x) = absurd (x (g .accepted))
 next-row g f (passes x r) = passes g (passes f r)
+
+-- what a neighbour says of the day that it is for
+pub nowhere-outside : {n : ℤ} → IsNeighbour n Neighbour′.Nowhere → ¬ Is32Bit n
+nowhere-outside (outside f) = f
+
+pub day-there : {n k : ℤ} → IsNeighbour n (Neighbour′.Day k) → Is32Bit n × (k ≡ n)
+day-there (there f) = (f, refl)
 
 pub converts-row : {d : Date} {c : Calendar} {a : Dated} → Genuine d → AtJdn c (d .jdn) a → ConvertsTo d c a
 converts-row g (refuses x) = refuses (λ p. x (p .1))

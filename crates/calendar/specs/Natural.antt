@@ -17,7 +17,10 @@ use Rattle.calendar.specs.declared.ReformDate.{ReformDate}
 use Rattle.calendar.specs.declared.ReformDate.the-variants as ReformDate′
 use Rattle.calendar.specs.Calendars.{meant, Accepted, sameStyle}
 use Rattle.calendar.specs.Rows.{Unless}
-use Rattle.calendar.specs.Promise.{made-up, ReformRecord}
+use Rattle.neighbours.specs.declared.Neighbour.{Neighbour}
+use Rattle.neighbours.specs.Neighbours.{IsNeighbour}
+use Rattle.calendar.specs.declared.Dated.{Dated}
+use Rattle.calendar.specs.Promise.{made-up, ReformRecord, Next}
 
 -- the calendar is Julian below the held day r and Gregorian from it on; or it is made up
 pub data SwitchIs (c : Calendar) : Switch → Type 0 where
@@ -41,3 +44,7 @@ fieldsOf d = record { year = d .year; ordinal = d .ordinal; month = d .month; da
 -- of an accepted calendar: whether the label of a 32-bit day is Julian
 abbrev pub JulianStyleIs : Calendar → ℤ → Bool → Type 0
 JulianStyleIs c n b = Accepted c → b ≡ sameStyle JulianStyle (style (meant c) n)
+
+-- of a record and the day next to it, whichever that is: the answer is that day's record, or its refusal
+abbrev pub Beside : Date → Neighbour → Dated → Type 0
+Beside d m a = (n : ℤ) → IsNeighbour n m → Next d n a
