@@ -3,12 +3,13 @@ use mathlib.Core.Path.{_≡_}
 use mathlib.Core.Bool.{Bool}
 use lib.IntN.{ℤ, pos}
 use Prim.Native.Nat.{ℕ, _-_, _<_}
-use Rattle.days.specs.DayByDay.{OfYear, JulianStyle, style}
+use Rattle.days.specs.DayByDay.{label, OfYear, JulianStyle, style}
 use Rattle.days.specs.Held.{day, year, HeldYear}
 use Rattle.days.specs.Numbers.{number}
 use Rattle.days.specs.Runs.{Runs, top}
 use Rattle.inner.specs.Natural.{heldYear, MonthDayAt}
 use Rattle.fields.specs.declared.Fields.{Fields}
+use Rattle.refusals.specs.declared.Refusal.{Refusal}
 use Rattle.calendar.specs.declared.Calendar.{Calendar}
 use Rattle.calendar.specs.declared.Date.{Date}
 use Rattle.calendar.specs.declared.Switch.{Switch}
@@ -17,9 +18,9 @@ use Rattle.changeover.specs.declared.Spot.{Spot}
 use Rattle.changeover.specs.Spots.{LabelledAt, spot}
 use Rattle.calendar.specs.declared.ReformDate.{ReformDate}
 use Rattle.calendar.specs.declared.ReformDate.the-variants as ReformDate′
-use Rattle.calendar.specs.Calendars.{meant, labels, Accepted, sameStyle}
-use Rattle.calendar.specs.Rows.{Unless}
-use Rattle.calendar.specs.Promise.{made-up, ReformRecord}
+use Rattle.calendar.specs.Calendars.{meant, labels, Accepted, Skipped, sameStyle}
+use Rattle.calendar.specs.Rows.{Unless, If}
+use Rattle.calendar.specs.Promise.{refusal, made-up, Missing, ReformRecord}
 
 -- the calendar is Julian below the held day r and Gregorian from it on; or it is made up
 pub data SwitchIs (c : Calendar) : Switch → Type 0 where
@@ -35,6 +36,10 @@ pub record InYear (c : Calendar) (r y k : ℕ) : Type 0 where
 
 abbrev pub OnSpot : ℕ → Spot → Type 0
 OnSpot r s = LabelledAt r (s .held) (heldYear (s .year)) (s .month) (s .day) (s .ordinal)
+
+-- a question of a label: 4, 5, and then the rows below
+abbrev pub OfALabel : {A : Type 0} → Calendar → ℤ → ℕ → ℕ → (Refusal → A) → (A → Type 0) → A → Type 0
+OfALabel c y m d refused Below = If (Missing c (label y m d)) (refused (refusal 4 (pos d))) (If (Skipped c (label y m d)) (refused (refusal 5 (pos d))) Below)
 
 -- the record of a spot whose places are those of its own reckoning
 abbrev pub plainRecord : Calendar → Spot → ℤ → Date
