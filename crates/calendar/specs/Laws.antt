@@ -11,7 +11,7 @@ use lib.IntN.{ℤ, pos}
 use Rattle.whole.specs.Tests.{lt-or-ge}
 use Rattle.whole.specs.Biased.{unbias}
 use Rattle.days.specs.DayByDay as D
-use Rattle.days.specs.DayByDay.{AcceptedReformation, label, OfYear, Place, Ordinal, DayOrdinal, Is32Bit, Style, JulianStyle, GregorianStyle, style}
+use Rattle.days.specs.DayByDay.{AcceptedReformation, label, Borne, OfYear, Place, Ordinal, DayOrdinal, Is32Bit, Style, JulianStyle, GregorianStyle, style}
 use Rattle.days.specs.Rising.{days-one}
 use Rattle.days.specs.Held.{dayBias, day, year, HeldYear}
 use Rattle.days.specs.Spans.{Stretch}
@@ -19,14 +19,13 @@ use Rattle.days.specs.Starts.{Spot}
 use Rattle.days.specs.Julian as J
 use Rattle.days.specs.Gregorian as G
 use Rattle.days.specs.Numbers.{number, daysBefore, few-before}
-use Rattle.days.specs.Steps.{month-some}
 use Rattle.days.specs.Reformations.{all-three}
 use Rattle.days.specs.Table.{accepts-only, fits-held}
 use Rattle.days.specs.Calendars.{skipped-nowhere}
 use Rattle.days.specs.Runs.{Runs, reforming-runs, firstDay, first-cases, first-julian, yearFirst, monthFirst, julianMonth, gregorianMonth, year-plain, month-plain, year-stretch, ordinal-at, day-ordinal-at, on-old, on-new, in-gap, on-none}
 use Rattle.inner.specs.Natural.{heldDay, heldYear, Lowers, within, beyond}
-use Rattle.inner.specs.Promise.{OrdinalOf, ordinal, no-ordinal}
-use Rattle.inner.specs.Laws.{held-day, in-year-month}
+use Rattle.inner.specs.Promise.{OrdinalOf}
+use Rattle.inner.specs.Laws.{held-day}
 use Rattle.inner.specs.declared.DayNumber.{DayNumber}
 use Rattle.inner.specs.declared.DayNumber.the-variants as DayNumber′
 use Rattle.inner.specs.declared.DayOrdinal.the-variants as DayOrdinal′
@@ -53,7 +52,7 @@ use Rattle.calendar.specs.Calendars.{meant, labels, Accepted, IsRecord, 
 use Rattle.calendar.specs.Rows.{refuses, passes}
 use Rattle.calendar.specs.Promise.{refused, refusedReformation, Reforms, judged, Month, RecordOf, record-of, Given, ByLabel, on-label, ByOrdinal, OffYear, on-ordinal, AtJdn, IsGenuine, Next, ConvertsTo}
 use Rattle.calendar.specs.One.{whole, record-one}
-use Rattle.calendar.specs.Natural.{SwitchIs, switches-at, no-calendar, plainRecord, fieldsOf}
+use Rattle.calendar.specs.Natural.{SwitchIs, switches-at, no-calendar, OfALabel, plainRecord, fieldsOf}
 
 -- ---- Where a calendar goes over
 pub switch-accepted : {r : ℤ} {k : ℕ} → Judges r (Judgement′.Accepted k) → SwitchIs (Reforming r) (Switch′.At k)
@@ -175,23 +174,35 @@ labelled-new {r} {k} (old h a) g = absurd (never h g)
 labelled-new (new h a) g = a
 
 -- ---- The rows of a label
-found-on : (c : Calendar) {r : ℕ} → Runs (meant c) r → (y : ℕ) {m d k o : ℕ} {z : ℤ} {a : Dated} → year y ≡ z → LabelledAt r k y m d o → Given c (year y) (day k) a → ByLabel c z m d a
-found-on c runs y {m} {d} {k} {z = z} {a} e l g =
-    let f : labels c (day k) ≡ label z m d = labelled-is c runs l ∙ ap (λ (z : ℤ). label z m d) e in
-    passes (λ n. n .0 (day k, f)) (passes (λ s. skipped-nowhere (runs .accepted) s (day k, f)) (on-label f (subst (λ (z : ℤ). Given c z (day k) a) e g)))
-
 module _ (c : Calendar) {r : ℕ} (runs : Runs (meant c) r) {y m d : ℕ} {z : ℤ} (h : HeldYear (heldYear y)) (e : year (heldYear y) ≡ z) where
   pub found-spot : {s : S.Spot} → Finds r y m d (Found′.At s) → OnSpot r s
   found-spot (finds-old g a) = old g a
   found-spot (finds-new g a n) = new g a
 
-  pub found-row : {s : S.Spot} {a : Dated} → Finds r y m d (Found′.At s) → Given c (year (heldYear (s .year))) (day (s .held)) a → ByLabel c z m d a
-  found-row (finds-old g a) i = found-on c runs (heldYear y) e (old g a) i
-  found-row (finds-new g a n) i = found-on c runs (heldYear y) e (new g a) i
+  found-year : {s : S.Spot} → Finds r y m d (Found′.At s) → year (heldYear (s .year)) ≡ z
+  found-year (finds-old g a) = e
+  found-year (finds-new g a n) = e
 
-  pub refused-row : {f : Refusal} → Finds r y m d (Found′.Refused f) → ByLabel c z m d (Dated′.Refused f)
-  refused-row (finds-gap t u v) = let s = in-gap runs (heldYear y) m d e h t u v in passes (λ n. n .1 s) (refuses s)
-  refused-row (finds-none n l) = refuses (on-none runs (heldYear y) m d e h n l)
+  pub found-label : {s : S.Spot} → Finds r y m d (Found′.At s) → labels c (day (s .held)) ≡ label z m d
+  found-label (finds-old g a) = labelled-is c runs (old g a) ∙ ap (λ (z : ℤ). label z m d) e
+  found-label (finds-new g a n) = labelled-is c runs (new g a) ∙ ap (λ (z : ℤ). label z m d) e
+
+  -- 4, 5, and then the rows below, in every call that is asked about a label
+  pub label-row : {A : Type 0} (refused : Refusal → A) {Below : A → Type 0} {s : S.Spot} {a : A} → Finds r y m d (Found′.At s) → Below a → OfALabel c z m d refused Below a
+  label-row refused {s = s} f b =
+      let l : labels c (day (s .held)) ≡ label z m d = found-label f in
+      passes (λ n. n .0 (day (s .held), l)) (passes (λ i. skipped-nowhere (runs .accepted) i (day (s .held), l)) b)
+
+  pub found-row : {s : S.Spot} {a : Dated} → Finds r y m d (Found′.At s) → Given c (year (heldYear (s .year))) (day (s .held)) a → ByLabel c z m d a
+  found-row {s} {a} f g = label-row Dated′.Refused f (on-label (found-label f) (subst (λ (z : ℤ). Given c z (day (s .held)) a) (found-year f) g))
+
+  pub refused-row : {A : Type 0} (refused : Refusal → A) {Below : A → Type 0} {f : Refusal} → Finds r y m d (Found′.Refused f) → OfALabel c z m d refused Below (refused f)
+  refused-row refused (finds-gap t u v) = let s = in-gap runs (heldYear y) m d e h t u v in passes (λ n. n .1 s) (refuses s)
+  refused-row refused (finds-none n l) = refuses (on-none runs (heldYear y) m d e h n l)
+
+  pub refused-nowhere : {f : Refusal} → Finds r y m d (Found′.Refused f) → ¬ Borne (labels c) (label z m d)
+  refused-nowhere (finds-gap t u v) = skipped-nowhere (runs .accepted) (in-gap runs (heldYear y) m d e h t u v)
+  refused-nowhere (finds-none n l) = on-none runs (heldYear y) m d e h n l .0
 
 -- ---- A day that is found, in 32 bits
 pub given-held : (c : Calendar) {k : ℕ} {n z : ℤ} {d : Date} → Lowers k (DayNumber′.Day n) → IsRecord c n d → Given c z (day k) (Dated′.Date d)
@@ -258,9 +269,6 @@ julian-month-is {leap} y {m} {o} {t} e f p = sum (daysBefore leap m) (ordinal-su
   where
     sum : (b : ℕ) → b + 1 ≡ o → t + o - 1 ≡ t + b
     sum b q = omega arith
-
-pub month-has-first : {leap : Bool} {m : ℕ} → Month m → OrdinalOf leap m 1 DayOrdinal′.Nothing → ⊥
-month-has-first {leap} {m} v (no-ordinal n) = n (daysBefore leap m + 1) (in-year-month leap m 1 v (omega arith) (month-some leap m (v .0) (v .1)))
 
 -- ---- Reformations
 pub reforms-accepted : {r : ℤ} {k : ℕ} → Judges r (Judgement′.Accepted k) → Reforms r (Reformed′.Calendar (Reforming r))

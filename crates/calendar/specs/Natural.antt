@@ -3,11 +3,12 @@ use mathlib.Core.Path.{_≡_}
 use mathlib.Core.Bool.{Bool}
 use lib.IntN.{ℤ, pos}
 use Prim.Native.Nat.{ℕ}
-use Rattle.days.specs.DayByDay.{JulianStyle, style}
+use Rattle.days.specs.DayByDay.{label, JulianStyle, style}
 use Rattle.days.specs.Held.{day, year}
 use Rattle.days.specs.Runs.{Runs}
 use Rattle.inner.specs.Natural.{heldYear}
 use Rattle.fields.specs.declared.Fields.{Fields}
+use Rattle.refusals.specs.declared.Refusal.{Refusal}
 use Rattle.calendar.specs.declared.Calendar.{Calendar}
 use Rattle.calendar.specs.declared.Date.{Date}
 use Rattle.calendar.specs.declared.Switch.{Switch}
@@ -15,17 +16,21 @@ use Rattle.calendar.specs.declared.Switch.the-variants as Switch′
 use Rattle.changeover.specs.declared.Spot.{Spot}
 use Rattle.calendar.specs.declared.ReformDate.{ReformDate}
 use Rattle.calendar.specs.declared.ReformDate.the-variants as ReformDate′
-use Rattle.calendar.specs.Calendars.{meant, Accepted, sameStyle}
-use Rattle.calendar.specs.Rows.{Unless}
+use Rattle.calendar.specs.Calendars.{meant, Accepted, Skipped, sameStyle}
+use Rattle.calendar.specs.Rows.{Unless, If}
 use Rattle.neighbours.specs.declared.Neighbour.{Neighbour}
 use Rattle.neighbours.specs.Neighbours.{IsNeighbour}
 use Rattle.calendar.specs.declared.Dated.{Dated}
-use Rattle.calendar.specs.Promise.{made-up, ReformRecord, Next}
+use Rattle.calendar.specs.Promise.{refusal, made-up, Missing, ReformRecord, Next}
 
 -- the calendar is Julian below the held day r and Gregorian from it on; or it is made up
 pub data SwitchIs (c : Calendar) : Switch → Type 0 where
   switches-at : {r : ℕ} → Runs (meant c) r → SwitchIs c (Switch′.At r)
   no-calendar : ¬ Accepted c → SwitchIs c Switch′.MadeUp
+
+-- a question of a label: 4, 5, and then the rows below
+abbrev pub OfALabel : {A : Type 0} → Calendar → ℤ → ℕ → ℕ → (Refusal → A) → (A → Type 0) → A → Type 0
+OfALabel c y m d refused Below = If (Missing c (label y m d)) (refused (refusal 4 (pos d))) (If (Skipped c (label y m d)) (refused (refusal 5 (pos d))) Below)
 
 -- the record of a spot whose places are those of its own reckoning
 abbrev pub plainRecord : Calendar → Spot → ℤ → Date

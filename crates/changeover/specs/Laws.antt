@@ -1,4 +1,4 @@
--- From the arithmetic of a label and of a year to what is said of them.
+-- From the arithmetic of a label, of a year and of a month to what is said of them.
 -- Assumes nothing.
 use mathlib.Core.Path.{_≡_, sym, _∙_, ap, ap₂, subst}
 use mathlib.Core.Bool.{Bool}
@@ -17,16 +17,20 @@ use Rattle.days.specs.Gregorian as G
 use Rattle.days.specs.Numbers.{There, number, daysBefore, before}
 use Rattle.days.specs.Months.{ordinal-within}
 use Rattle.days.specs.Table.{there-too}
-use Rattle.days.specs.Runs.{top, firstDay, first-cases}
-use Rattle.inner.specs.Natural.{heldYear}
+use Rattle.days.specs.Steps.{month-some}
+use Rattle.days.specs.Runs.{top, firstDay, first-cases, julianMonth, gregorianMonth, monthFirst, monthPast}
+use Rattle.inner.specs.Natural.{heldYear, Month}
 use Rattle.inner.specs.Promise.{OrdinalOf, ordinal, no-ordinal}
 use Rattle.inner.specs.One.{in-year-ordinal}
 use Rattle.inner.specs.Laws.{in-year-valid, in-year-month}
 use Rattle.inner.specs.declared.DayOrdinal.the-variants as DayOrdinal′
+use Rattle.changeover.specs.declared.MonthSpan.{MonthSpan}
+use Rattle.changeover.specs.declared.Spanned.the-variants as Spanned′
+use Rattle.changeover.specs.declared.PlainMonth.{PlainMonth}
 use Rattle.changeover.specs.declared.Spot as S
 use Rattle.changeover.specs.declared.Found.the-variants as Found′
 use Rattle.changeover.specs.declared.Read.the-variants as Read′
-use Rattle.changeover.specs.Spots.{YearSpan, At, spot, ThereIn, Reads, reads-at, reads-none, ReadsBelow, below-at, below-none, Finds, finds-old, finds-new, finds-gap, finds-none}
+use Rattle.changeover.specs.Spots.{YearSpan, MonthIn, monthSpan, SpansMonth, spans-month, At, spot, ThereIn, Reads, reads-at, reads-none, ReadsBelow, below-at, below-none, Finds, finds-old, finds-new, finds-gap, finds-none}
 
 -- ---- A day in its reckoning
 module _ {leapAt : ℕ → Bool} {start : ℕ → ℕ} {k y m d o : ℕ} (a : At leapAt start k y m d o) where
@@ -138,3 +142,30 @@ reading-at p = let (v, e) = ordinal-sum p in reads-at v e
 
 pub reading-none : {leap : Bool} {t y m d : ℕ} → OrdinalOf leap m d DayOrdinal′.Nothing → Reads leap t y m d Read′.Nothing
 reading-none {leap} {m = m} {d} (no-ordinal n) = reads-none (λ v. n (daysBefore leap m + d) (in-year-month leap m d (v .0, v .1) (v .2) (v .3)))
+
+-- ---- The days of a month
+pub month-has-first : {leap : Bool} {m : ℕ} → Month m → OrdinalOf leap m 1 DayOrdinal′.Nothing → ⊥
+month-has-first {leap} {m} v (no-ordinal n) = n (daysBefore leap m + 1) (in-year-month leap m 1 v (omega arith) (month-some leap m (v .0) (v .1)))
+
+-- in one reckoning
+pub month-in-is : {leap : Bool} {t m n o : ℕ} → n ≡ monthLength leap m → OrdinalOf leap m 1 (DayOrdinal′.At o) → MonthIn leap t m (record { first = t + o - 1; days = n })
+month-in-is {leap} {t} {m} {o = o} e p = record { first-is = sum (daysBefore leap m) (ordinal-sum p .1); days-is = e }
+  where
+    sum : (b : ℕ) → b + 1 ≡ o → t + o - 1 ≡ t + b
+    sum b q = omega arith
+
+module _ (leapAt : ℕ → Bool) (start : ℕ → ℕ) (y : ℕ) {m t : ℕ} {b : Bool} {p : PlainMonth} (e : b ≡ leapAt y) (f : t ≡ start y) (i : MonthIn b t m p) where
+  pub plain-first : p .first ≡ start y + daysBefore (leapAt y) m
+  plain-first = i .first-is ∙ ap₂ _+_ f (ap (λ (b : Bool). daysBefore b m) e)
+
+  pub plain-past : p .first + p .days ≡ start y + daysBefore (leapAt y) m + monthLength (leapAt y) m
+  plain-past = ap₂ _+_ plain-first (i .days-is ∙ ap (λ (b : Bool). monthLength b m) e)
+
+-- in the calendar, as they are computed
+pub month-span-is : (r y m : ℕ) {j g j′ g′ a b : ℕ} → Month m → j ≡ julianMonth y m → g ≡ gregorianMonth y m → j′ ≡ julianMonth y m + monthLength (J.leapAt y) m → g′ ≡ gregorianMonth y m + monthLength (G.leapAt y) m
+    → a ≡ firstDay r j g → b ≡ firstDay r j′ g′ → SpansMonth r y m (Spanned′.Month (record { switch = r; first = a; past = b; gregorian = g }))
+month-span-is r y m {g = g} {a = a} {b} v e f h i p q =
+    let first : a ≡ monthFirst r y m = p ∙ ap₂ (firstDay r) e f in
+    let past : b ≡ monthPast r y m = q ∙ ap₂ (firstDay r) h i in
+    let same : record { switch = r; first = a; past = b; gregorian = g } ≡ monthSpan r y m = cc in
+    subst (λ (s : MonthSpan). SpansMonth r y m (Spanned′.Month s)) (sym same) (spans-month v)

@@ -1,4 +1,4 @@
--- What is said of a label and of a year allows one answer, whatever the day on which the calendar goes over.
+-- What is said of a label, of a year and of a month allows one answer, whatever the day on which the calendar goes over.
 -- Assumes nothing.
 use mathlib.Core.Path.{_≡_, refl, sym, _∙_, ap}
 use mathlib.Core.Bool.{Bool}
@@ -8,13 +8,20 @@ use Rattle.days.specs.Julian as J
 use Rattle.days.specs.Gregorian as G
 use Rattle.days.specs.Numbers.{number}
 use Rattle.inner.specs.Natural.{heldYear}
+use Rattle.changeover.specs.declared.Spanned.{Spanned}
 use Rattle.changeover.specs.declared.Found.{Found}
 use Rattle.changeover.specs.declared.Found.the-variants as Found′
-use Rattle.changeover.specs.Spots.{YearSpan, At, spot, NoneBelow, Finds, finds-old, finds-new, finds-gap, finds-none}
+use Rattle.changeover.specs.Spots.{YearSpan, SpansMonth, spans-month, no-month, At, spot, NoneBelow, Finds, finds-old, finds-new, finds-gap, finds-none}
 use Rattle.changeover.specs.Laws.{at-number}
 
 pub year-span-one : (r y : ℕ) {a b i j : ℕ} → YearSpan r y a b → YearSpan r y i j → (a ≡ i) × (b ≡ j)
 year-span-one r y s t = (s .first-is ∙ sym (t .first-is), s .past-is ∙ sym (t .past-is))
+
+pub spans-month-one : (r y m : ℕ) (a b : Spanned) → SpansMonth r y m a → SpansMonth r y m b → a ≡ b
+spans-month-one r y m a b (spans-month v) (spans-month w) = refl
+spans-month-one r y m a b (spans-month v) (no-month n) = absurd (n v)
+spans-month-one r y m a b (no-month n) (spans-month v) = absurd (n v)
+spans-month-one r y m a b (no-month n) (no-month i) = refl
 
 -- a label that is there has one day in a reckoning, and one ordinal
 module _ {leapAt : ℕ → Bool} {start : ℕ → ℕ} {k l y m d o p : ℕ} (z : ℕ) (a : At leapAt start k y m d o) (b : At leapAt start l y m d p) where

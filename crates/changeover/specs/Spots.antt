@@ -10,8 +10,12 @@ use Rattle.days.specs.Held.{HeldYear}
 use Rattle.days.specs.Julian as J
 use Rattle.days.specs.Gregorian as G
 use Rattle.days.specs.Numbers.{There, number, daysBefore}
-use Rattle.days.specs.Runs.{top, yearFirst}
-use Rattle.inner.specs.Natural.{heldYear}
+use Rattle.days.specs.Runs.{top, yearFirst, gregorianMonth, monthFirst, monthPast}
+use Rattle.inner.specs.Natural.{heldYear, Month}
+use Rattle.changeover.specs.declared.MonthSpan.{MonthSpan}
+use Rattle.changeover.specs.declared.Spanned.{Spanned}
+use Rattle.changeover.specs.declared.Spanned.the-variants as Spanned′
+use Rattle.changeover.specs.declared.PlainMonth.{PlainMonth}
 use Rattle.changeover.specs.declared.Spot.{Spot}
 use Rattle.changeover.specs.declared.Found.{Found}
 use Rattle.changeover.specs.declared.Found.the-variants as Found′
@@ -24,6 +28,20 @@ pub record YearSpan (r y a b : ℕ) : Type 0 where
   pub past-is : b ≡ yearFirst r (y + 1)
   pub first-room : a < top
   pub past-room : b < top
+
+-- a month of a year that starts on a held day, and is leap or not
+pub record MonthIn (leap : Bool) (start m : ℕ) (p : PlainMonth) : Type 0 where
+  pub first-is : p .first ≡ start + daysBefore leap m
+  pub days-is : p .days ≡ monthLength leap m
+
+-- the month m of a held year: its first day, the first day past it, and the first day of that month in the Gregorian reckoning
+abbrev pub monthSpan : ℕ → ℕ → ℕ → MonthSpan
+monthSpan r y m = record { switch = r; first = monthFirst r y m; past = monthPast r y m; gregorian = gregorianMonth y m }
+
+-- it, or 3 where there is no such month
+pub data SpansMonth (r y m : ℕ) : Spanned → Type 0 where
+  spans-month : Month m → SpansMonth r y m (Spanned′.Month (monthSpan r y m))
+  no-month : ¬ Month m → SpansMonth r y m (Spanned′.Refused (refusal 3 0 (pos m)))
 
 -- in one reckoning day k is the day d of the month m of the year y, and the o-th of that year
 pub record At (leapAt : ℕ → Bool) (start : ℕ → ℕ) (k y m d o : ℕ) : Type 0 where

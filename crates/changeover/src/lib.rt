@@ -1,11 +1,11 @@
 // A calendar that goes over from the Julian reckoning to the Gregorian one on a held day, on naturals: which day bears a label, and where a
-// year begins and ends. A calendar of one reckoning goes over past every day that is looked at, or before all of them.
+// year or a month begins and ends. A calendar of one reckoning goes over past every day that is looked at, or before all of them.
 
 ghost use mathlib.Core.Path.{_≡_};
 ghost use Prim.Native.Nat.{_<_};
 ghost use Rattle.days.specs.Runs.{firstDay};
-ghost use Rattle.inner.specs.Natural.{heldYear};
-ghost use Rattle.changeover.specs.Spots.{Reads, ReadsBelow, Finds, YearSpan};
+ghost use Rattle.inner.specs.Natural.{heldYear, Month};
+ghost use Rattle.changeover.specs.Spots.{Reads, ReadsBelow, Finds, YearSpan, MonthIn, SpansMonth};
 use inner::DayOrdinal;
 use refusals::Refusal;
 use refusals::refusal_with;
@@ -41,6 +41,78 @@ pub fn year_span(switch: u64, year: u32) -> Span
     Span {
         first: first_day(switch, julian, gregorian),
         past: first_day(switch, julian + julian_days, gregorian + gregorian_days),
+    }
+}
+
+// ---- The days of a month
+
+// A month of a calendar that goes over on day `switch`: its first day, the first day past it, and its first day in the Gregorian reckoning,
+// from which its Gregorian days count. The first two are one day where the month has no day.
+pub struct MonthSpan {
+    pub switch: u64,
+    pub first: u64,
+    pub past: u64,
+    pub gregorian: u64,
+}
+
+pub enum Spanned {
+    Month(MonthSpan),
+    Refused(Refusal),
+}
+
+// A month that is not from 1 to 12 is refused 3.
+pub fn month_span(switch: u64, year: u32, month: u32) -> Spanned
+    ensures { λ s. ⌜ SpansMonth switch (heldYear year) month s ⌝ }
+{
+    if month < 1 {
+        return Spanned::Refused(refusal_with(3, month));
+    }
+    if 12 < month {
+        return Spanned::Refused(refusal_with(3, month));
+    }
+    let old = month_in(
+        inner::is_julian_leap(year),
+        inner::julian_start(year),
+        month,
+    );
+    let new = month_in(
+        inner::is_gregorian_leap(year),
+        inner::gregorian_start(year),
+        month,
+    );
+    Spanned::Month(MonthSpan {
+        switch: switch,
+        first: first_day(switch, old.first, new.first),
+        past: first_day(
+            switch,
+            old.first + old.days as u64,
+            new.first + new.days as u64,
+        ),
+        gregorian: new.first,
+    })
+}
+
+// A month in one reckoning.
+struct PlainMonth {
+    first: u64,
+    days: u32,
+}
+
+// By the first day of the year, and whether that is leap.
+fn month_in(leap: bool, start: u64, month: u32) -> PlainMonth
+    requires { ⌜ Month month × (start < 2_000_000_000_000) ⌝ }
+    ensures { λ r. ⌜ MonthIn leap start month r ⌝ }
+{
+    let days = inner::days_in_month(leap, month);
+    match inner::md2ordinal(leap, month, 1) {
+        DayOrdinal::At(ordinal) => PlainMonth {
+            first: start + ordinal as u64 - 1,
+            days: days,
+        },
+        DayOrdinal::Nothing => PlainMonth {
+            first: start,
+            days: days,
+        },
     }
 }
 

@@ -1,6 +1,6 @@
 -- From what the private functions say to the promises.
 -- Assumes nothing.
-use mathlib.Core.Path.{_≡_, sym, _∙_, ap, ap₂, subst, subst₂}
+use mathlib.Core.Path.{_≡_, refl, sym, _∙_, ap, subst, subst₂}
 use mathlib.Core.Bool.{Bool, true, false}
 use mathlib.Core.Logic.{_⊎_, inl, inr, ⊎-elim}
 use Prim.Native.Nat.{ℕ, _+_, _-_, _<_, _≤_, _^_}
@@ -21,37 +21,37 @@ use Rattle.days.specs.Julian as J
 use Rattle.days.specs.Gregorian as G
 use Rattle.days.specs.Numbers.{There, number, daysBefore, few-before}
 use Rattle.days.specs.Steps.{month-most}
-use Rattle.days.specs.Table.{there-too}
 use Rattle.days.specs.Calendars.{accepted-rises, skipped-nowhere}
-use Rattle.days.specs.Runs as Runs′
-use Rattle.days.specs.Runs.{Runs, top, julian-runs, gregorian-runs, firstDay, first-cases, first-julian, first-gregorian, julianMonth, gregorianMonth, monthFirst, monthPast, year-stretch, month-stretch, on-old, on-new, on-none}
-use Rattle.inner.specs.Promise.{OrdinalOf}
-use Rattle.inner.specs.declared.DayOrdinal.the-variants as DayOrdinal′
+use Rattle.days.specs.Runs.{Runs, top, julian-runs, gregorian-runs, firstDay, first-cases, first-julian, first-gregorian, julianMonth, gregorianMonth, monthFirst, monthPast, year-stretch, month-stretch, on-old, on-new}
+use Rattle.inner.specs.Natural.{heldYear}
 use Rattle.calendar.specs.declared.Calendar.{Calendar}
 use Rattle.refusals.specs.declared.Refusal.{Refusal}
 use Rattle.calendar.specs.declared.Counted.the-variants as Counted′
 use Rattle.calendar.specs.declared.Told.the-variants as Told′
 use Rattle.calendar.specs.declared.Dated.{Dated}
 use Rattle.calendar.specs.declared.Dated.the-variants as Dated′
-use Rattle.calendar.specs.Calendars.{meant, labels, Skipped}
+use Rattle.calendar.specs.Calendars.{meant, labels}
 use Rattle.calendar.specs.Rows.{refuses, passes}
-use Rattle.calendar.specs.Promise.{Month, Missing, Given, AtYmd, on-label}
-use Rattle.changeover.specs.Spots.{YearSpan}
-use Rattle.changeover.specs.Laws.{starts-close, ordinal-sum}
-use Rattle.months.specs.declared.MonthShape.{MonthShape}
-use Rattle.months.specs.declared.PlainMonth.{PlainMonth}
-use Rattle.months.specs.declared.Shaped.the-variants as Shaped′
-use Rattle.months.specs.declared.Found.the-variants as Found′
+use Rattle.calendar.specs.Promise.{Month, Given, AtYmd, on-label}
+use Rattle.calendar.specs.Laws.{found-label, label-row, refused-row, refused-nowhere}
+use Rattle.changeover.specs.declared.MonthSpan.{MonthSpan}
+use Rattle.changeover.specs.declared.Spanned.{Spanned}
+use Rattle.changeover.specs.declared.Spanned.the-variants as Spanned′
+use Rattle.changeover.specs.declared.Spot.{Spot}
+use Rattle.changeover.specs.declared.Found.the-variants as Found′
+use Rattle.changeover.specs.Spots as S
+use Rattle.changeover.specs.Spots.{YearSpan, SpansMonth, Finds}
+use Rattle.changeover.specs.Laws.{starts-close}
 use Rattle.months.specs.Promise as P
 use Rattle.months.specs.Promise.{refusedNumber, OfAMonth, YearLengthOf, Len, first, no-first, last, no-last, FirstDayOf, LastDayOf, borne, not-borne, Contains, DayOrdinalOf, OffMonth, NthDay, nth-record, NthDate}
 use Rattle.months.specs.One.{label-of-month}
-use Rattle.months.specs.Natural.{MonthIn, ShapeIn, ShapeOf, Shapes, shaped, no-calendar, no-month, Inside, dayIn, Findable, Finds, on-julian, on-gregorian, in-gap, no-day, past-julian, past-gregorian}
+use Rattle.months.specs.Natural.{SpanOf, Spans, spanned, no-calendar, no-month, Inside, dayIn}
 
 -- ---- The machine's room
 
 -- so the days of a year or a month are few
-span-few : (r j g j′ g′ : ℕ) → g ≤ j + 30_000_366 → j′ ≤ j + 366 → g′ ≤ g + 366 → firstDay r j′ g′ - firstDay r j g < 2 ^ 32
-span-few r j g j′ g′ c u v = first-cases r j′ g′
+few-between : (r j g j′ g′ : ℕ) → g ≤ j + 30_000_366 → j′ ≤ j + 366 → g′ ≤ g + 366 → firstDay r j′ g′ - firstDay r j g < 2 ^ 32
+few-between r j g j′ g′ c u v = first-cases r j′ g′
     (λ h e. first-cases r j g (λ k f. omega arith) (λ k l f. omega arith) (λ k l f. omega arith))
     (λ h i e. first-cases r j g (λ k f. omega arith) (λ k l f. omega arith) (λ k l f. omega arith))
     (λ h i e. first-cases r j g (λ k f. omega arith) (λ k l f. omega arith) (λ k l f. omega arith))
@@ -67,26 +67,26 @@ module _ (y : ℕ) (h : HeldYear y) where
       julian-few = omega (arith, h .to)
 
   module _ {m : ℕ} (v : Month m) where
-    julian-room : (julianMonth y m < 3_500_000_000_000) × (julianMonth y m + monthLength (J.leapAt y) m < top)
-    julian-room = sum (J.start y) (daysBefore (J.leapAt y) m) (monthLength (J.leapAt y) m) julian-start-room (few-before (J.leapAt y) m (v .0) (v .1)) (month-most (J.leapAt y) m (v .0) (v .1))
+    month-room : (leapAt : ℕ → Bool) (start : ℕ → ℕ) → start y < 3_000_000_000_000 → start y + daysBefore (leapAt y) m + monthLength (leapAt y) m < top
+    month-room leapAt start f = sum (start y) (daysBefore (leapAt y) m) (monthLength (leapAt y) m) f (few-before (leapAt y) m (v .0) (v .1)) (month-most (leapAt y) m (v .0) (v .1))
       where
-        sum : (a b n : ℕ) → a < 3_000_000_000_000 → b ≤ 366 → n ≤ 31 → (a + b < 3_500_000_000_000) × (a + b + n < top)
-        sum a b n f g i = (omega arith, omega arith)
+        sum : (a b n : ℕ) → a < 3_000_000_000_000 → b ≤ 366 → n ≤ 31 → a + b + n < top
+        sum a b n f g i = omega arith
 
-    gregorian-room : (gregorianMonth y m < 3_500_000_000_000) × (gregorianMonth y m + monthLength (G.leapAt y) m < top)
-    gregorian-room = sum (G.start y) (daysBefore (G.leapAt y) m) (monthLength (G.leapAt y) m) gregorian-start-room (few-before (G.leapAt y) m (v .0) (v .1)) (month-most (G.leapAt y) m (v .0) (v .1))
-      where
-        sum : (a b n : ℕ) → a < 3_000_000_000_000 → b ≤ 366 → n ≤ 31 → (a + b < 3_500_000_000_000) × (a + b + n < top)
-        sum a b n f g i = (omega arith, omega arith)
+    julian-room : julianMonth y m + monthLength (J.leapAt y) m < top
+    julian-room = month-room J.leapAt J.start julian-start-room
+
+    gregorian-room : gregorianMonth y m + monthLength (G.leapAt y) m < top
+    gregorian-room = month-room G.leapAt G.start gregorian-start-room
 
     past-room : (r : ℕ) → monthPast r y m < top
-    past-room r = room (julianMonth y m + monthLength (J.leapAt y) m) (gregorianMonth y m + monthLength (G.leapAt y) m) (julian-room .1) (gregorian-room .1)
+    past-room r = room (julianMonth y m + monthLength (J.leapAt y) m) (gregorianMonth y m + monthLength (G.leapAt y) m) julian-room gregorian-room
       where
         room : (j g : ℕ) → j < top → g < top → firstDay r j g < top
         room j g u w = first-cases r j g (λ x e. omega arith) (λ x z e. omega arith) (λ x z e. omega arith)
 
     month-few : (r : ℕ) → monthPast r y m - monthFirst r y m < 2 ^ 32
-    month-few r = span-few r (julianMonth y m) (gregorianMonth y m) (julianMonth y m + monthLength (J.leapAt y) m) (gregorianMonth y m + monthLength (G.leapAt y) m)
+    month-few r = few-between r (julianMonth y m) (gregorianMonth y m) (julianMonth y m + monthLength (J.leapAt y) m) (gregorianMonth y m + monthLength (G.leapAt y) m)
         (sum (J.start y) (G.start y) (daysBefore (J.leapAt y) m) (daysBefore (G.leapAt y) m) (starts-close y (h .to)) (few-before (G.leapAt y) m (v .0) (v .1)))
         (more (julianMonth y m) (month-most (J.leapAt y) m (v .0) (v .1)))
         (more (gregorianMonth y m) (month-most (G.leapAt y) m (v .0) (v .1)))
@@ -110,37 +110,25 @@ module _ (c : Calendar) {r y a b : ℕ} {z : ℤ} (runs : Runs (meant c) r) (h :
 
   pub year-few : b - a < 2 ^ 32
   year-few = subst₂ (λ (a b : ℕ). b - a < 2 ^ 32) (sym (s .first-is)) (sym (s .past-is))
-      (span-few r (J.start y) (G.start y) (J.start (y + 1)) (G.start (y + 1)) (omega (arith, starts-close y (h .to))) (next-start J.starts y) (next-start G.starts y))
+      (few-between r (J.start y) (G.start y) (J.start (y + 1)) (G.start (y + 1)) (omega (arith, starts-close y (h .to))) (next-start J.starts y) (next-start G.starts y))
 
   pub year-row : YearLengthOf c z (Counted′.Number (b - a))
   year-row = passes (runs .accepted) (P.number (year-days .days))
 
--- ---- A month in one reckoning
-pub month-in-is : {leap : Bool} {t m n o : ℕ} → n ≡ monthLength leap m → OrdinalOf leap m 1 (DayOrdinal′.At o) → MonthIn leap t m (record { first = t + o - 1; days = n })
-month-in-is {leap} {t} {m} {o = o} e p = record { first-is = sum (daysBefore leap m) (ordinal-sum p .1); days-is = e }
-  where
-    sum : (b : ℕ) → b + 1 ≡ o → t + o - 1 ≡ t + b
-    sum b q = omega arith
+-- ---- A month
 
-module _ (leapAt : ℕ → Bool) (start : ℕ → ℕ) (y : ℕ) {m t : ℕ} {b : Bool} {p : PlainMonth} (e : b ≡ leapAt y) (f : t ≡ start y) (i : MonthIn b t m p) where
-  pub plain-first : p .first ≡ start y + daysBefore (leapAt y) m
-  plain-first = i .first-is ∙ ap₂ _+_ f (ap (λ (b : Bool). daysBefore b m) e)
-
-  pub plain-days : p .days ≡ monthLength (leapAt y) m
-  plain-days = i .days-is ∙ ap (λ (b : Bool). monthLength b m) e
-
--- the days of the month
+-- its days in one reckoning
 module _ (y : ℕ) (h : HeldYear y) {m : ℕ} (v : Month m) (k : ℕ) where
   old-days : OfMonth (year y) m (labelOf julian (day k)) → (julianMonth y m ≤ k) × (k < julianMonth y m + monthLength (J.leapAt y) m)
   old-days p =
       let (a, b, q) = month-stretch julian-runs y h m (v .0) (v .1) .here k p in
       let n : ℕ = monthLength (J.leapAt y) m in (
-        subst (λ (i : ℕ). i ≤ k) (first-julian top (julianMonth y m) (gregorianMonth y m) (less (julianMonth y m) (julian-room y h v .0))) a,
-        subst (λ (i : ℕ). k < i) (first-julian top (julianMonth y m + n) (gregorianMonth y m + monthLength (G.leapAt y) m) (julian-room y h v .1)) b,
+        subst (λ (i : ℕ). i ≤ k) (first-julian top (julianMonth y m) (gregorianMonth y m) (less (julianMonth y m) n (julian-room y h v))) a,
+        subst (λ (i : ℕ). k < i) (first-julian top (julianMonth y m + n) (gregorianMonth y m + monthLength (G.leapAt y) m) (julian-room y h v)) b,
       )
     where
-      less : (a : ℕ) → a < 3_500_000_000_000 → a < top
-      less a g = omega arith
+      less : (a n : ℕ) → a + n < top → a < top
+      less a n g = omega arith
 
   new-days : OfMonth (year y) m (labelOf gregorian (day k)) → (gregorianMonth y m ≤ k) × (k < gregorianMonth y m + monthLength (G.leapAt y) m)
   new-days p =
@@ -153,90 +141,94 @@ module _ (y : ℕ) (h : HeldYear y) {m : ℕ} (v : Month m) (k : ℕ) where
       from j g = first-gregorian 0 j g (omega arith) (omega arith)
 
 -- the day of the month of one of them
-module _ (leapAt : ℕ → Bool) (start : ℕ → ℕ) (y : ℕ) {m a n : ℕ} (v : Month m) (e : a ≡ start y + daysBefore (leapAt y) m) (f : n ≡ monthLength (leapAt y) m) where
-  day-there : (k : ℕ) → a ≤ k → k < a + n → There leapAt y m (k + 1 - a)
-  day-there k g h = (v .0, v .1, omega arith, subst (λ (n : ℕ). k + 1 - a ≤ n) f (omega arith))
+module _ (leapAt : ℕ → Bool) (start : ℕ → ℕ) (y : ℕ) {m a : ℕ} (v : Month m) (e : a ≡ start y + daysBefore (leapAt y) m) (k : ℕ) (g : a ≤ k) where
+  day-there : k < a + monthLength (leapAt y) m → There leapAt y m (k + 1 - a)
+  day-there h = (v .0, v .1, omega arith, omega arith)
 
-  day-number : (k : ℕ) → a ≤ k → number leapAt start y m (k + 1 - a) ≡ k
-  day-number k g = ap (λ (b : ℕ). b + (k + 1 - a) - 1) (sym e) ∙ back a g
+  day-number : number leapAt start y m (k + 1 - a) ≡ k
+  day-number = ap (λ (b : ℕ). b + (k + 1 - a) - 1) (sym e) ∙ back a g
     where
       back : (a : ℕ) → a ≤ k → a + (k + 1 - a) - 1 ≡ k
       back a g = omega arith
 
-  label-there : {d : ℕ} → 1 ≤ d → d ≤ n → There leapAt y m d
-  label-there {d} g h = (v .0, v .1, g, subst (λ (n : ℕ). d ≤ n) f h)
+-- ---- What the span of a month says
+pub span-is : {c : Calendar} {z : ℤ} {m : ℕ} {s : MonthSpan} → Spans c z m (Spanned′.Month s) → SpanOf c z m s
+span-is (spanned p) = p
 
-  label-number : (d : ℕ) → number leapAt start y m d ≡ a + d - 1
-  label-number d = ap (λ (b : ℕ). b + d - 1) (sym e)
+pub span-made : (c : Calendar) {z : ℤ} {r y m : ℕ} {s : Spanned} → Runs (meant c) r → HeldYear y → year y ≡ z → SpansMonth r y m s → Spans c z m s
+span-made c {y = y} runs h e (S.spans-month v) = spanned (record { y = y; runs = runs; year-held = h; year-is = e; is-month = v; span = refl })
+span-made c runs h e (S.no-month n) = no-month (runs .accepted) n
 
--- ---- What the shape of a month says
-pub shape-of : {c : Calendar} {z : ℤ} {m : ℕ} {s : MonthShape} → Shapes c z m (Shaped′.Shape s) → ShapeOf c z m s
-shape-of (shaped p) = p
+pub span-refused : {A : Type 0} {c : Calendar} {z : ℤ} {m : ℕ} {f : Refusal} (refused : Refusal → A) {Below : A → Type 0} → Spans c z m (Spanned′.Refused f) → OfAMonth c m refused Below (refused f)
+span-refused refused (no-calendar n) = refuses n
+span-refused refused (no-month a n) = passes a (refuses n)
 
-pub shape-made : (c : Calendar) {z : ℤ} {r y m : ℕ} {s : MonthShape} → Runs (meant c) r → HeldYear y → year y ≡ z → Month m → ShapeIn r y m s → ShapeOf c z m s
-shape-made c {y = y} {m} {s} runs h e v i = record {
-  y = y;
-  runs = subst (Runs (meant c)) (sym (i .switch-is)) runs;
-  year-held = h;
-  year-is = e;
-  is-month = v;
-  shape = subst (λ (r : ℕ). ShapeIn r y m s) (sym (i .switch-is)) i;
-}
+module _ (c : Calendar) {z : ℤ} {m : ℕ} (s : MonthSpan) (p : SpanOf c z m s) where
+  first-is : s .first ≡ monthFirst (s .switch) (p .y) m
+  first-is = ap (λ (s : MonthSpan). s .first) (p .span)
 
-pub shape-refused : {A : Type 0} {c : Calendar} {z : ℤ} {m : ℕ} {f : Refusal} (refused : Refusal → A) {Below : A → Type 0} → Shapes c z m (Shaped′.Refused f) → OfAMonth c m refused Below (refused f)
-shape-refused refused (no-calendar n) = refuses n
-shape-refused refused (no-month a n) = passes a (refuses n)
+  past-is : s .past ≡ monthPast (s .switch) (p .y) m
+  past-is = ap (λ (s : MonthSpan). s .past) (p .span)
 
-module _ (c : Calendar) {z : ℤ} {m : ℕ} (s : MonthShape) (p : ShapeOf c z m s) where
+  gregorian-is : s .gregorian ≡ gregorianMonth (p .y) m
+  gregorian-is = ap (λ (s : MonthSpan). s .gregorian) (p .span)
+
   month-days : Stretch (labels c) (OfMonth z m) dayBias (s .first) (s .past)
   month-days = subst (λ (z : ℤ). Stretch (labels c) (OfMonth z m) dayBias (s .first) (s .past)) (p .year-is)
-      (subst₂ (λ (a b : ℕ). Stretch (labels c) (OfMonth (year (p .y)) m) dayBias a b) (sym (p .shape .first-is)) (sym (p .shape .past-is))
+      (subst₂ (λ (a b : ℕ). Stretch (labels c) (OfMonth (year (p .y)) m) dayBias a b) (sym first-is) (sym past-is)
       (month-stretch (p .runs) (p .y) (p .year-held) m (p .is-month .0) (p .is-month .1)))
 
   month-row : {A : Type 0} (refused : Refusal → A) {Below : A → Type 0} {a : A} → Below a → OfAMonth c m refused Below a
   month-row refused b = passes (p .runs .accepted) (passes (p .is-month) b)
 
-  pub shape-ordered : s .first ≤ s .past
-  shape-ordered = month-days .ordered
+  pub span-ordered : s .first ≤ s .past
+  span-ordered = month-days .ordered
 
-  pub shape-room : s .past < top
-  shape-room = subst (λ (b : ℕ). b < top) (sym (p .shape .past-is)) (past-room (p .y) (p .year-held) (p .is-month) (s .switch))
+  pub span-room : s .past < top
+  span-room = subst (λ (b : ℕ). b < top) (sym past-is) (past-room (p .y) (p .year-held) (p .is-month) (s .switch))
 
-  pub shape-few : s .past - s .first < 2 ^ 32
-  shape-few = subst₂ (λ (a b : ℕ). b - a < 2 ^ 32) (sym (p .shape .first-is)) (sym (p .shape .past-is)) (month-few (p .y) (p .year-held) (p .is-month) (s .switch))
-
-  pub findable : Findable s
-  findable = record {
-    julian-room = omega (arith, p .shape .julian-is, julian-room (p .y) (p .year-held) (p .is-month) .0);
-    gregorian-room = omega (arith, p .shape .gregorian-is, gregorian-room (p .y) (p .year-held) (p .is-month) .0);
-  }
+  pub span-few : s .past - s .first < 2 ^ 32
+  span-few = subst₂ (λ (a b : ℕ). b - a < 2 ^ 32) (sym first-is) (sym past-is) (month-few (p .y) (p .year-held) (p .is-month) (s .switch))
 
   -- a day of the month is one in its own reckoning
   module _ (k : ℕ) (from : s .first ≤ k) (to : k < s .past) where
     room : k < top
-    room = omega (arith, shape-room)
+    room = omega (arith, span-room)
 
     of-month : {l : Label} → labels c (day k) ≡ l → OfMonth (year (p .y)) m l
     of-month e = subst (OfMonth (year (p .y)) m) e (subst (λ (z : ℤ). OfMonth z m (labels c (day k))) (sym (p .year-is)) (month-days .inside k from to))
 
+    old-in : k < s .switch → (julianMonth (p .y) m ≤ k) × (k < julianMonth (p .y) m + monthLength (J.leapAt (p .y)) m)
+    old-in h = old-days (p .y) (p .year-held) (p .is-month) k (of-month (p .runs .below k h room .0))
+
+    new-in : s .switch ≤ k → (s .gregorian ≤ k) × (k < s .gregorian + monthLength (G.leapAt (p .y)) m)
+    new-in h = subst (λ (a : ℕ). (a ≤ k) × (k < a + monthLength (G.leapAt (p .y)) m)) (sym gregorian-is) (new-days (p .y) (p .year-held) (p .is-month) k (of-month (p .runs .above k h room .0)))
+
     pub inside : Inside s k
     inside = record {
-      old = λ h. subst₂ (λ (a n : ℕ). (a ≤ k) × (k < a + n)) (sym (p .shape .julian-is)) (sym (p .shape .julian-days-is)) (old-days (p .y) (p .year-held) (p .is-month) k (of-month (p .runs .below k h room .0)));
-      new = λ h. subst₂ (λ (a n : ℕ). (a ≤ k) × (k < a + n)) (sym (p .shape .gregorian-is)) (sym (p .shape .gregorian-days-is)) (new-days (p .y) (p .year-held) (p .is-month) k (of-month (p .runs .above k h room .0)));
-      few = (rw (p .shape .julian-days-is) (month-most (J.leapAt (p .y)) m (p .is-month .0) (p .is-month .1)), rw (p .shape .gregorian-days-is) (month-most (G.leapAt (p .y)) m (p .is-month .0) (p .is-month .1)));
+      from = from;
+      few = omega (arith, span-few);
+      new = λ h. let (a, b) = new-in h in (a, omega (arith, month-most (G.leapAt (p .y)) m (p .is-month .0) (p .is-month .1)));
       room = room;
     }
 
+    -- a month with a Julian day begins in that reckoning
+    begins-old : k < s .switch → s .first ≡ julianMonth (p .y) m
+    begins-old h = first-is ∙ first-julian (s .switch) (julianMonth (p .y) m) (gregorianMonth (p .y) m) (below (julianMonth (p .y) m) (old-in h .0))
+      where
+        below : (j : ℕ) → j ≤ k → j < s .switch
+        below j i = omega arith
+
     pub label-in : labels c (day k) ≡ label z m (dayIn s k)
     label-in = ⊎-elim
-        (λ h. let (a, b) = inside .old h in
-        let n = day-number J.leapAt J.start (p .y) (p .is-month) (p .shape .julian-is) (p .shape .julian-days-is) k a in
+        (λ h. let n = day-number J.leapAt J.start (p .y) (p .is-month) (begins-old h) k from in
         subst₂ (λ (i d : ℕ). labels c (day i) ≡ label z m d) n (sym (simp (lt-ltb k (s .switch) h)))
-        (on-old (p .runs) (p .y) m (k + 1 - s .julian) (p .year-is) (p .year-held) (day-there J.leapAt J.start (p .y) (p .is-month) (p .shape .julian-is) (p .shape .julian-days-is) k a b) (subst (λ (i : ℕ). i < s .switch) (sym n) h)))
-        (λ h. let (a, b) = inside .new h in
-        let n = day-number G.leapAt G.start (p .y) (p .is-month) (p .shape .gregorian-is) (p .shape .gregorian-days-is) k a in
+        (on-old (p .runs) (p .y) m (k + 1 - s .first) (p .year-is) (p .year-held)
+        (day-there J.leapAt J.start (p .y) (p .is-month) (begins-old h) k from (subst (λ (a : ℕ). k < a + monthLength (J.leapAt (p .y)) m) (sym (begins-old h)) (old-in h .1))) (subst (λ (i : ℕ). i < s .switch) (sym n) h)))
+        (λ h. let (a, b) = new-in h in
+        let n = day-number G.leapAt G.start (p .y) (p .is-month) gregorian-is k a in
         subst₂ (λ (i d : ℕ). labels c (day i) ≡ label z m d) n (sym (simp (le-ltb k (s .switch) h)))
-        (on-new (p .runs) (p .y) m (k + 1 - s .gregorian) (p .year-is) (p .year-held) (day-there G.leapAt G.start (p .y) (p .is-month) (p .shape .gregorian-is) (p .shape .gregorian-days-is) k a b) (subst (λ (i : ℕ). s .switch ≤ i) (sym n) h)))
+        (on-new (p .runs) (p .y) m (k + 1 - s .gregorian) (p .year-is) (p .year-held) (day-there G.leapAt G.start (p .y) (p .is-month) gregorian-is k a b) (subst (λ (i : ℕ). s .switch ≤ i) (sym n) h)))
         (lt-or-ge k (s .switch))
 
   -- ---- lengths, and the first and the last day
@@ -264,75 +256,35 @@ module _ (c : Calendar) {z : ℤ} {m : ℕ} (s : MonthShape) (p : ShapeOf c z m 
       (λ n o. let (k, w, a, b) = month-days .only n o in subst (λ (n : ℤ). n ≤ℤ day (s .past - 1)) (sym w) (unbias-le dayBias k (s .past - 1) (omega arith)))))
 
   -- ---- a label of the month
-  pub found-label : {d k : ℕ} → Finds s d (Found′.On k) → labels c (day k) ≡ label z m d
-  found-label {d} (on-julian g h i) =
-      let n = label-number J.leapAt J.start (p .y) (p .is-month) (p .shape .julian-is) (p .shape .julian-days-is) d in
-      subst (λ (k : ℕ). labels c (day k) ≡ label z m d) n
-      (on-old (p .runs) (p .y) m d (p .year-is) (p .year-held) (label-there J.leapAt J.start (p .y) (p .is-month) (p .shape .julian-is) (p .shape .julian-days-is) g h) (subst (λ (k : ℕ). k < s .switch) (sym n) i))
-  found-label {d} (on-gregorian g h i) =
-      let n = label-number G.leapAt G.start (p .y) (p .is-month) (p .shape .gregorian-is) (p .shape .gregorian-days-is) d in
-      subst (λ (k : ℕ). labels c (day k) ≡ label z m d) n
-      (on-new (p .runs) (p .y) m d (p .year-is) (p .year-held) (label-there G.leapAt G.start (p .y) (p .is-month) (p .shape .gregorian-is) (p .shape .gregorian-days-is) g h) (subst (λ (k : ℕ). s .switch ≤ k) (sym n) i))
+  module _ {x d : ℕ} (h : HeldYear (heldYear x)) (e : year (heldYear x) ≡ z) where
+    pub borne-row : {i : Spot} → Finds (s .switch) x m d (Found′.At i) → Contains c z m d (Told′.Is true)
+    borne-row {i} f = month-row Told′.Refused (borne (day (i .held), found-label c (p .runs) h e f))
 
-  -- what it asks of the machine
-  module _ {d k : ℕ} (f : Finds s d (Found′.On k)) where
-    found-place : (s .first ≤ k) × (k < s .past) × Place (λ n. OfMonth z m (labels c n)) (day k) (k + 1 - s .first)
-    found-place = month-days .here k (label-of-month (found-label f))
+    pub nowhere-row : {r : Refusal} → Finds (s .switch) x m d (Found′.Refused r) → Contains c z m d (Told′.Is false)
+    nowhere-row f = month-row Told′.Refused (not-borne (refused-nowhere c (p .runs) h e f))
 
-    pub found-from : s .first ≤ k + 1
-    found-from = omega (arith, found-place .0)
+    pub refused-place : {r : Refusal} → Finds (s .switch) x m d (Found′.Refused r) → DayOrdinalOf c z m d (Counted′.Refused r)
+    refused-place f = month-row Counted′.Refused (refused-row c (p .runs) h e Counted′.Refused f)
 
-    pub found-room : k < top
-    found-room = omega (arith, found-place .1, shape-room)
+    module _ {i : Spot} (f : Finds (s .switch) x m d (Found′.At i)) where
+      found-place : (s .first ≤ i .held) × (i .held < s .past) × Place (λ n. OfMonth z m (labels c n)) (day (i .held)) (i .held + 1 - s .first)
+      found-place = month-days .here (i .held) (label-of-month (found-label c (p .runs) h e f))
 
-    pub found-few : k + 1 - s .first < 2 ^ 32
-    found-few = omega (arith, found-place .1, shape-few)
+      -- what it asks of the machine
+      pub found-from : s .first ≤ i .held + 1
+      found-from = omega (arith, found-place .0)
 
-  pub found-gap : {d : ℕ} → Finds s d Found′.Skipped → Skipped c (label z m d)
-  found-gap {d} (in-gap g h i l) = Runs′.in-gap (p .runs) (p .y) m d (p .year-is) (p .year-held)
-      (label-there G.leapAt G.start (p .y) (p .is-month) (p .shape .gregorian-is) (p .shape .gregorian-days-is) g h)
-      (subst (λ (k : ℕ). s .switch ≤ k) (sym (label-number J.leapAt J.start (p .y) (p .is-month) (p .shape .julian-is) (p .shape .julian-days-is) d)) i)
-      (subst (λ (k : ℕ). k < s .switch) (sym (label-number G.leapAt G.start (p .y) (p .is-month) (p .shape .gregorian-is) (p .shape .gregorian-days-is) d)) l)
+      pub found-room : i .held < top
+      found-room = omega (arith, found-place .1, span-room)
 
-  pub found-none : {d : ℕ} → Finds s d Found′.Nowhere → Missing c (label z m d)
-  found-none {d} f = on-none (p .runs) (p .y) m d (p .year-is) (p .year-held) (not-new f) (late f)
-    where
-      never : {d n : ℕ} → n < d → d ≤ n → ⊥
-      never h g = omega arith
+      pub found-few : i .held + 1 - s .first < 2 ^ 32
+      found-few = omega (arith, found-place .1, span-few)
 
-      few-old : There J.leapAt (p .y) m d → d ≤ s .«julian_days»
-      few-old t = subst (λ (n : ℕ). d ≤ n) (sym (p .shape .julian-days-is)) (t .3)
-
-      not-new : Finds s d Found′.Nowhere → ¬ There G.leapAt (p .y) m d
-      not-new (no-day h) t = never h (t .2)
-      not-new (past-julian h) t = never h (few-old (there-too (p .y) m d t))
-      not-new (past-gregorian h i) t = never h (subst (λ (n : ℕ). d ≤ n) (sym (p .shape .gregorian-days-is)) (t .3))
-
-      late : Finds s d Found′.Nowhere → There J.leapAt (p .y) m d → s .switch ≤ number J.leapAt J.start (p .y) m d
-      late (no-day h) t = absurd (never h (t .2))
-      late (past-julian h) t = absurd (never h (few-old t))
-      late (past-gregorian h i) t = subst (λ (k : ℕ). s .switch ≤ k) (sym (label-number J.leapAt J.start (p .y) (p .is-month) (p .shape .julian-is) (p .shape .julian-days-is) d)) i
-
-  pub borne-row : {d k : ℕ} → Finds s d (Found′.On k) → Contains c z m d (Told′.Is true)
-  borne-row {k = k} f = month-row Told′.Refused (borne (day k, found-label f))
-
-  pub skipped-row : {d : ℕ} → Finds s d Found′.Skipped → Contains c z m d (Told′.Is false)
-  skipped-row f = month-row Told′.Refused (not-borne (skipped-nowhere (p .runs .accepted) (found-gap f)))
-
-  pub nowhere-row : {d : ℕ} → Finds s d Found′.Nowhere → Contains c z m d (Told′.Is false)
-  nowhere-row f = month-row Told′.Refused (not-borne (found-none f .0))
-
-  pub place-row : {d k : ℕ} → Finds s d (Found′.On k) → DayOrdinalOf c z m d (Counted′.Number (k + 1 - s .first))
-  place-row {d} {k} f =
-      let e : labels c (day k) ≡ label z m d = found-label f in
-      month-row Counted′.Refused (passes (λ n. n .0 (day k, e)) (passes (λ i. skipped-nowhere (p .runs .accepted) i (day k, e))
-      (P.number (day k, e, subst (λ (l : Label). Place (λ n. OfMonth (l .year) (l .month) (labels c n)) (day k) (k + 1 - s .first)) (sym e) (found-place f .2)))))
-
-  pub place-gap : {d : ℕ} → Finds s d Found′.Skipped → DayOrdinalOf c z m d (refusedNumber 5 d)
-  place-gap f = let i = found-gap f in month-row Counted′.Refused (passes (λ n. n .1 i) (refuses i))
-
-  pub place-none : {d : ℕ} → Finds s d Found′.Nowhere → DayOrdinalOf c z m d (refusedNumber 4 d)
-  place-none f = month-row Counted′.Refused (refuses (found-none f))
+      pub place-row : DayOrdinalOf c z m d (Counted′.Number (i .held + 1 - s .first))
+      place-row =
+          let l : labels c (day (i .held)) ≡ label z m d = found-label c (p .runs) h e f in
+          month-row Counted′.Refused (label-row c (p .runs) h e Counted′.Refused f
+          (P.number (day (i .held), l, subst (λ (l : Label). Place (λ n. OfMonth (l .year) (l .month) (labels c n)) (day (i .held)) (i .held + 1 - s .first)) (sym l) (found-place .2))))
 
   -- ---- the k-th day
   module _ (k : ℕ) where
@@ -343,7 +295,7 @@ module _ (c : Calendar) {z : ℤ} {m : ℕ} (s : MonthShape) (p : ShapeOf c z m 
     off-low h = off-by (inl (omega arith))
 
     pub off-high : s .past ≤ s .first + k - 1 → 1 ≤ k → NthDay c z m k (refusedNumber 21 k)
-    off-high h u = off-by (inr (omega (arith, shape-ordered)))
+    off-high h u = off-by (inr (omega (arith, span-ordered)))
 
     pub nth-row : {d : ℕ} → 1 ≤ k → s .first + k - 1 < s .past → d ≡ dayIn s (s .first + k - 1) → NthDay c z m k (Counted′.Number d)
     nth-row u v e =

@@ -3,20 +3,20 @@
 // and Gregorian ones from it on.
 
 ghost use mathlib.Core.Path.{_≡_};
-ghost use Prim.Native.Nat.{_+_, _<_};
-ghost use Rattle.inner.specs.Natural.{heldYear};
-ghost use Rattle.calendar.specs.Promise.{Month};
 ghost use Rattle.months.specs.Promise.{YearLengthOf, Len, FirstDayOf, LastDayOf, Contains, DayOrdinalOf, NthDay, NthDate};
-ghost use Rattle.months.specs.Natural.{Shapes, ShapeIn, MonthIn, Inside, dayIn, Findable, Finds};
+ghost use Rattle.months.specs.Natural.{Spans, Inside, dayIn};
 use calendar::Calendar;
 use calendar::Counted;
 use calendar::Dated;
-use calendar::Refusal;
 use calendar::Switch;
 use calendar::Told;
 use calendar::switch_of;
+use changeover::Found;
+use changeover::MonthSpan;
+use changeover::Spanned;
+use changeover::find;
+use changeover::month_span;
 use changeover::year_span;
-use inner::DayOrdinal;
 use refusals::refusal_with;
 use whole::raised;
 
@@ -41,9 +41,9 @@ pub fn year_length(calendar: Calendar, year: i32) -> Counted
 pub fn len(calendar: Calendar, year: i32, month: u32) -> Counted
     ensures { λ a. ⌜ Len calendar year month a ⌝ }
 {
-    match month_shape(calendar, year, month) {
-        Shaped::Refused(refusal) => Counted::Refused(refusal),
-        Shaped::Shape(s) => Counted::Number((s.past - s.first) as u32),
+    match span_of(calendar, year, month) {
+        Spanned::Refused(refusal) => Counted::Refused(refusal),
+        Spanned::Month(s) => Counted::Number((s.past - s.first) as u32),
     }
 }
 
@@ -51,9 +51,9 @@ pub fn len(calendar: Calendar, year: i32, month: u32) -> Counted
 pub fn first_day(calendar: Calendar, year: i32, month: u32) -> Counted
     ensures { λ a. ⌜ FirstDayOf calendar year month a ⌝ }
 {
-    match month_shape(calendar, year, month) {
-        Shaped::Refused(refusal) => Counted::Refused(refusal),
-        Shaped::Shape(s) => {
+    match span_of(calendar, year, month) {
+        Spanned::Refused(refusal) => Counted::Refused(refusal),
+        Spanned::Month(s) => {
             if s.past <= s.first {
                 return Counted::Number(0);
             }
@@ -65,9 +65,9 @@ pub fn first_day(calendar: Calendar, year: i32, month: u32) -> Counted
 pub fn last_day(calendar: Calendar, year: i32, month: u32) -> Counted
     ensures { λ a. ⌜ LastDayOf calendar year month a ⌝ }
 {
-    match month_shape(calendar, year, month) {
-        Shaped::Refused(refusal) => Counted::Refused(refusal),
-        Shaped::Shape(s) => {
+    match span_of(calendar, year, month) {
+        Spanned::Refused(refusal) => Counted::Refused(refusal),
+        Spanned::Month(s) => {
             if s.past <= s.first {
                 return Counted::Number(0);
             }
@@ -80,12 +80,11 @@ pub fn last_day(calendar: Calendar, year: i32, month: u32) -> Counted
 pub fn contains(calendar: Calendar, year: i32, month: u32, day: u32) -> Told
     ensures { λ a. ⌜ Contains calendar year month day a ⌝ }
 {
-    match month_shape(calendar, year, month) {
-        Shaped::Refused(refusal) => Told::Refused(refusal),
-        Shaped::Shape(s) => match find(s, day) {
-            Found::On(_) => Told::Is(true),
-            Found::Skipped => Told::Is(false),
-            Found::Nowhere => Told::Is(false),
+    match span_of(calendar, year, month) {
+        Spanned::Refused(refusal) => Told::Refused(refusal),
+        Spanned::Month(s) => match find(s.switch, raised(year), month, day) {
+            Found::At(_) => Told::Is(true),
+            Found::Refused(_) => Told::Is(false),
         },
     }
 }
@@ -94,12 +93,11 @@ pub fn contains(calendar: Calendar, year: i32, month: u32, day: u32) -> Told
 pub fn day_ordinal(calendar: Calendar, year: i32, month: u32, day: u32) -> Counted
     ensures { λ a. ⌜ DayOrdinalOf calendar year month day a ⌝ }
 {
-    match month_shape(calendar, year, month) {
-        Shaped::Refused(refusal) => Counted::Refused(refusal),
-        Shaped::Shape(s) => match find(s, day) {
-            Found::On(held) => Counted::Number((held + 1 - s.first) as u32),
-            Found::Skipped => Counted::Refused(refusal_with(5, day)),
-            Found::Nowhere => Counted::Refused(refusal_with(4, day)),
+    match span_of(calendar, year, month) {
+        Spanned::Refused(refusal) => Counted::Refused(refusal),
+        Spanned::Month(s) => match find(s.switch, raised(year), month, day) {
+            Found::At(spot) => Counted::Number((spot.held + 1 - s.first) as u32),
+            Found::Refused(refusal) => Counted::Refused(refusal),
         },
     }
 }
@@ -108,9 +106,9 @@ pub fn day_ordinal(calendar: Calendar, year: i32, month: u32, day: u32) -> Count
 pub fn nth_day(calendar: Calendar, year: i32, month: u32, k: u32) -> Counted
     ensures { λ a. ⌜ NthDay calendar year month k a ⌝ }
 {
-    match month_shape(calendar, year, month) {
-        Shaped::Refused(refusal) => Counted::Refused(refusal),
-        Shaped::Shape(s) => {
+    match span_of(calendar, year, month) {
+        Spanned::Refused(refusal) => Counted::Refused(refusal),
+        Spanned::Month(s) => {
             if k < 1 {
                 return Counted::Refused(refusal_with(21, k));
             }
@@ -135,134 +133,23 @@ pub fn nth_date(calendar: Calendar, year: i32, month: u32, k: u32) -> Dated
 
 // ---- The run of days of a month
 
-// Its first day and its number of days in the Julian reckoning and in the Gregorian one, where the calendar goes over, its first day in the
-// calendar, and the first day past it there. These two are one day where no day is of the month.
-struct MonthShape {
-    switch: u64,
-    julian: u64,
-    julian_days: u32,
-    gregorian: u64,
-    gregorian_days: u32,
-    first: u64,
-    past: u64,
-}
-
-enum Shaped {
-    Shape(MonthShape),
-    Refused(Refusal),
-}
-
-fn month_shape(calendar: Calendar, year: i32, month: u32) -> Shaped
-    ensures { λ s. ⌜ Shapes calendar year month s ⌝ }
+fn span_of(calendar: Calendar, year: i32, month: u32) -> Spanned
+    ensures { λ s. ⌜ Spans calendar year month s ⌝ }
 {
     match switch_of(calendar) {
-        Switch::MadeUp => Shaped::Refused(refusal_with(16, 0)),
-        Switch::At(switch) => {
-            if month < 1 {
-                return Shaped::Refused(refusal_with(3, month));
-            }
-            if 12 < month {
-                return Shaped::Refused(refusal_with(3, month));
-            }
-            Shaped::Shape(shape_in(switch, raised(year), month))
-        }
+        Switch::MadeUp => Spanned::Refused(refusal_with(16, 0)),
+        Switch::At(switch) => month_span(switch, raised(year), month),
     }
 }
 
-fn shape_in(switch: u64, year: u32, month: u32) -> MonthShape
-    requires { ⌜ Month month ⌝ }
-    ensures { λ s. ⌜ ShapeIn switch (heldYear year) month s ⌝ }
-{
-    let old = month_in(
-        inner::is_julian_leap(year),
-        inner::julian_start(year),
-        month,
-    );
-    let new = month_in(
-        inner::is_gregorian_leap(year),
-        inner::gregorian_start(year),
-        month,
-    );
-    MonthShape {
-        switch: switch,
-        julian: old.first,
-        julian_days: old.days,
-        gregorian: new.first,
-        gregorian_days: new.days,
-        first: changeover::first_day(switch, old.first, new.first),
-        past: changeover::first_day(
-            switch,
-            old.first + old.days as u64,
-            new.first + new.days as u64,
-        ),
-    }
-}
-
-// A month in one reckoning.
-struct PlainMonth {
-    first: u64,
-    days: u32,
-}
-
-// By the first day of the year, and whether that is leap.
-fn month_in(leap: bool, start: u64, month: u32) -> PlainMonth
-    requires { ⌜ Month month × (start < 2_000_000_000_000) ⌝ }
-    ensures { λ r. ⌜ MonthIn leap start month r ⌝ }
-{
-    let days = inner::days_in_month(leap, month);
-    match inner::md2ordinal(leap, month, 1) {
-        DayOrdinal::At(ordinal) => PlainMonth {
-            first: start + ordinal as u64 - 1,
-            days: days,
-        },
-        DayOrdinal::Nothing => PlainMonth {
-            first: start,
-            days: days,
-        },
-    }
-}
-
-// The day of the month that a day of the month has: counted from the month's first day in the reckoning that labels it.
-fn day_in(s: MonthShape, held: u64) -> u32
+// The day of the month that a day of the month has. A month with a Julian day begins in that reckoning, so such a day has its place in it;
+// a Gregorian one counts from the month's first Gregorian day.
+fn day_in(s: MonthSpan, held: u64) -> u32
     requires { ⌜ Inside s held ⌝ }
     ensures { λ d. ⌜ d ≡ dayIn s held ⌝ }
 {
     if held < s.switch {
-        return (held + 1 - s.julian) as u32;
+        return (held + 1 - s.first) as u32;
     }
     (held + 1 - s.gregorian) as u32
-}
-
-// ---- The day of a label
-
-enum Found {
-    On(u64),
-    Skipped,
-    Nowhere,
-}
-
-// A label is on its Julian day where that is below the day on which the calendar goes over, and on its Gregorian day where that is not below
-// it. What the Julian month has not, the Gregorian one has not either.
-fn find(s: MonthShape, day: u32) -> Found
-    requires { ⌜ Findable s ⌝ }
-    ensures { λ f. ⌜ Finds s day f ⌝ }
-{
-    if day < 1 {
-        return Found::Nowhere;
-    }
-    if s.julian_days < day {
-        return Found::Nowhere;
-    }
-    let julian = s.julian + day as u64 - 1;
-    if julian < s.switch {
-        return Found::On(julian);
-    }
-    if s.gregorian_days < day {
-        return Found::Nowhere;
-    }
-    let gregorian = s.gregorian + day as u64 - 1;
-    if gregorian < s.switch {
-        return Found::Skipped;
-    }
-    Found::On(gregorian)
 }

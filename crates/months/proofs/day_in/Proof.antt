@@ -12,10 +12,10 @@ add-result : tie.Need-add-result
 add-result c = search needs
 
 sub-result : tie.Need-sub-result
-sub-result c = omega (arith, c .before .before .before .pre .old (c .before .if1 .taken))
+sub-result c = omega (arith, c .before .before .before .pre .from)
 
 cast-result : tie.Need-cast-result
-cast-result c = record { fits = omega (arith, c .before .before .before .pre .old (c .before .if1 .taken), c .before .before .before .pre .few) }
+cast-result c = record { fits = c .before .before .before .pre .few }
 
 returns : tie.Need-returns
 returns c = sym (simp (lt-ltb _ _ (c .before .if1 .taken)))
@@ -27,7 +27,7 @@ sub-result-2 : tie.Need-sub-result-2
 sub-result-2 c = omega (arith, c .before .before .before .pre .new (c .before .if1 .left))
 
 cast-result-2 : tie.Need-cast-result-2
-cast-result-2 c = record { fits = omega (arith, c .before .before .before .pre .new (c .before .if1 .left), c .before .before .before .pre .few) }
+cast-result-2 c = record { fits = omega (arith, c .before .before .before .pre .new (c .before .if1 .left)) }
 
 returns-2 : tie.Need-returns-2
 returns-2 c = sym (simp (le-ltb _ _ (c .before .if1 .left)))

@@ -6,8 +6,8 @@ use borrow.Author.Needs.{needs}
 use Rattle.inner.specs.Natural.{heldYear}
 use Rattle.inner.specs.Promise.{OrdinalOf}
 use Rattle.inner.specs.declared.DayOrdinal.the-variants as DayOrdinal′
-use Rattle.changeover.specs.Laws.{ordinal-some}
-use Rattle.calendar.specs.Laws.{julian-month-is, month-has-first}
+use Rattle.changeover.specs.Laws.{ordinal-some, month-has-first}
+use Rattle.calendar.specs.Laws.{julian-month-is}
 use Rattle.calendar.proofs.record.julian_month.Statement.{statement}
 use Rattle.calendar.proofs.record.julian_month.Tie as tie
 

@@ -8,6 +8,7 @@ use Rattle.days.specs.Held.{year}
 use Rattle.inner.specs.Laws.{held-year, raised-year-held}
 use Rattle.inner.specs.Natural.{heldYear}
 use Rattle.calendar.specs.Laws.{found-spot, found-row, refused-row}
+use Rattle.calendar.specs.declared.Dated.the-variants as Dated′
 use Rattle.calendar.proofs.record.on_label.Statement.{statement}
 use Rattle.calendar.proofs.record.on_label.Tie as tie
 
@@ -42,7 +43,7 @@ returns-2 : tie.Need-returns-2
 returns-2 c =
     let n = c .before .before .before in
     let a = n .before .before in
-    refused-row (a .args .calendar) (a .pre .0) (raised-year-held (n .before .raised .ok)) (year-is (n .before)) (rw (c .before .refusal .given .1) at (n .find .ensures))
+    refused-row (a .args .calendar) (a .pre .0) (raised-year-held (n .before .raised .ok)) (year-is (n .before)) Dated′.Refused (rw (c .before .refusal .given .1) at (n .find .ensures))
 
 pub on-label-spec : {M : Type 1} → statement M
 on-label-spec =

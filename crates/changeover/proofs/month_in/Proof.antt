@@ -1,15 +1,13 @@
--- `months::month_in` meets its contract.
+-- `changeover::month_in` meets its contract.
 -- Assumes nothing.
 use Prim.Native.Nat.{_-_}
 use native.Mathlib.Omega.{arith}
 use borrow.Author.Needs.{needs}
 use Rattle.inner.specs.Promise.{OrdinalOf}
 use Rattle.inner.specs.declared.DayOrdinal.the-variants as DayOrdinal′
-use Rattle.changeover.specs.Laws.{ordinal-some}
-use Rattle.calendar.specs.Laws.{month-has-first}
-use Rattle.months.specs.Laws.{month-in-is}
-use Rattle.months.proofs.month_in.Statement.{statement}
-use Rattle.months.proofs.month_in.Tie as tie
+use Rattle.changeover.specs.Laws.{month-in-is, month-has-first, ordinal-some}
+use Rattle.changeover.proofs.month_in.Statement.{statement}
+use Rattle.changeover.proofs.month_in.Tie as tie
 
 at : (c : tie.After-known-told) → OrdinalOf (c .before .before .before .before .before .args .leap) (c .before .before .before .before .before .args .month) 1 (DayOrdinal′.At (c .before .ordinal .given .0 .0))
 at c = rw (c .before .ordinal .given .1) at (c .before .before .before .md2ordinal .ensures)
