@@ -1,4 +1,4 @@
--- `ncal::stands_at` meets its contract: the bytes passed are alike. The measure is what is left of the length.
+-- `names::stands_at` meets its contract: the bytes passed are alike. The measure is what is left of the length.
 -- Assumes nothing.
 use mathlib.Core.Path.{_≡_}
 use Prim.Native.Nat.{ℕ, _+_, _-_, _≤_, _<_}
@@ -7,9 +7,9 @@ use native.Mathlib.Omega.{arith}
 use borrow.Author.Count.{below-more}
 use borrow.Author.Needs.{needs}
 use lib.ListN.{length, getD}
-use Rattle.ncal.specs.Laws.{other-byte, all-bytes}
-use Rattle.ncal.proofs.stands_at.Statement.{statement}
-use Rattle.ncal.proofs.stands_at.Tie as tie
+use Rattle.names.specs.Laws.{other-byte, all-bytes}
+use Rattle.names.proofs.stands_at.Statement.{statement}
+use Rattle.names.proofs.stands_at.Tie as tie
 
 abbrev Inv-loop : tie.InvT-loop
 Inv-loop name letters at i₀ i = (i ≤ length name) × ((j : ℕ) → j < i → getD name j 0 ≡ getD letters (at + j) 0)

@@ -1,12 +1,11 @@
--- `ncal::number_of` meets its contract: one law for the names of a length, whose test is computed for each length.
+-- `names::number_of` meets its contract: one law for the names of a length, whose test is computed for each length.
 -- Assumes nothing.
 use borrow.Author.Needs.{needs}
 use lib.ListN.{length}
-use Rattle.ncal.specs.Laws.{in-group, known-length, beyond, too-long}
-use Rattle.ncal.specs.Search.{order}
-use Rattle.ncal.specs.Table.{bytes, table}
-use Rattle.ncal.proofs.number_of.Statement.{statement}
-use Rattle.ncal.proofs.number_of.Tie as tie
+use Rattle.names.specs.Laws.{in-group, known-length, beyond, too-long}
+use Rattle.names.specs.Table.{bytes, names}
+use Rattle.names.proofs.number_of.Statement.{statement}
+use Rattle.names.proofs.number_of.Tie as tie
 
 slice-aggregate-place-among : tie.Need-slice-aggregate-place-among
 slice-aggregate-place-among c = search needs
@@ -63,39 +62,39 @@ place-among-requires-9 : tie.Need-place-among-requires-9
 place-among-requires-9 c κs = search needs
 
 returns : tie.Need-returns
-unfolding order table bytes
+unfolding names bytes
 returns c = in-group (c .place-among .ensures) (c .before .before .match .keys1) tt tt
 
 returns-2 : tie.Need-returns-2
-unfolding order table bytes
+unfolding names bytes
 returns-2 c = in-group (c .place-among2 .ensures) (c .before .before .match .keys2) tt tt
 
 returns-3 : tie.Need-returns-3
-unfolding order table bytes
+unfolding names bytes
 returns-3 c = in-group (c .place-among3 .ensures) (c .before .before .match .keys3) tt tt
 
 returns-4 : tie.Need-returns-4
-unfolding order table bytes
+unfolding names bytes
 returns-4 c = in-group (c .place-among4 .ensures) (c .before .before .match .keys4) tt tt
 
 returns-5 : tie.Need-returns-5
-unfolding order table bytes
+unfolding names bytes
 returns-5 c = in-group (c .place-among5 .ensures) (c .before .before .match .keys5) tt tt
 
 returns-6 : tie.Need-returns-6
-unfolding order table bytes
+unfolding names bytes
 returns-6 c = in-group (c .place-among6 .ensures) (c .before .before .match .keys6) tt tt
 
 returns-7 : tie.Need-returns-7
-unfolding order table bytes
+unfolding names bytes
 returns-7 c = in-group (c .place-among7 .ensures) (c .before .before .match .keys7) tt tt
 
 returns-8 : tie.Need-returns-8
-unfolding order table bytes
+unfolding names bytes
 returns-8 c = in-group (c .place-among8 .ensures) (c .before .before .match .keys8) tt tt
 
 returns-9 : tie.Need-returns-9
-unfolding order table bytes
+unfolding names bytes
 returns-9 c = in-group (c .place-among9 .ensures) (c .before .before .match .keys9) tt tt
 
 returns-10 : tie.Need-returns-10

@@ -1,7 +1,8 @@
--- A rule of a table, shown at all of its entries by one test that is computed; entries by number and by membership; equality of lists by a test.
+-- A rule of a table, shown at all of its entries by one test that is computed; entries by number, by membership and by name; equality of lists by a
+-- test.
 -- Assumes nothing.
-use mathlib.Core.Path.{_≡_, refl, sym, _∙_, ap₂, subst}
-use mathlib.Core.Bool.{Bool, true, false, _&&_}
+use mathlib.Core.Path.{_≡_, refl, sym, _∙_, ap, ap₂, subst}
+use mathlib.Core.Bool.{Bool, true, false, cond, _&&_}
 use mathlib.Core.List.{List, [], _∷_, List·Memᴰ, List·Memᴰ·head, List·Memᴰ·tail, List·Memᴰ·cases-cons, List·Memᴰ·not-nil}
 use mathlib.Core.Logic.{⊎-elim}
 use Prim.Native.Nat.{ℕ, zero, suc, _+_, _<_}
@@ -49,3 +50,20 @@ eq-list [] [] h = refl
 eq-list [] (b ∷ t) h = absurd h
 eq-list (a ∷ s) [] h = absurd h
 eq-list (a ∷ s) (b ∷ t) h = let (e, r) = and-yes (eqb a b) (eqList s t) h in ap₂ (λ (x : ℕ) (l : List ℕ). x ∷ l) (eqb→eq a b e) (eq-list s t r)
+
+-- ---- Entries with a name
+
+-- the number of the first entry whose name is s, counted from i
+abbrev pub firstWith : {A : Type 0} → (A → List ℕ) → List ℕ → ℕ → List A → ℕ
+firstWith name s i [] = i
+firstWith name s i (x ∷ xs) = cond (eqList s (name x)) i (firstWith name s (suc i) xs)
+
+abbrev pub isFirst : {A : Type 0} → (A → List ℕ) → List A → ℕ → A → Bool
+isFirst name l i x = eqb (firstWith name (name x) 0 l) i
+
+-- where each entry is the first of its name, no two have one name
+pub distinct : {A : Type 0} (name : A → List ℕ) (d : A) (l : List A) → T (every (isFirst name l) 0 l) → (j k : ℕ) → j < length l → k < length l → name (getD l j d) ≡ name (getD l k d) → j ≡ k
+distinct name d l t j k g h e = sym (first j g) ∙ ap (λ (s : List ℕ). firstWith name s 0 l) e ∙ first k h
+  where
+    first : (k : ℕ) → k < length l → firstWith name (name (getD l k d)) 0 l ≡ k
+    first k h = eqb→eq _ _ (every-at (isFirst name l) d l t k h)

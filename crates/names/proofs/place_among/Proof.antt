@@ -1,11 +1,11 @@
--- `ncal::place_among` meets its contract: the parts passed are not the name. The measure is what is left of the letters.
+-- `names::place_among` meets its contract: the parts passed are not the name. The measure is what is left of the letters.
 -- Assumes nothing.
 use Prim.Native.Nat.{_+_, _-_, _≤_}
 use native.Mathlib.Omega.{arith}
 use lib.ListN.{length}
-use Rattle.ncal.specs.Laws.{Tried, tried-first, tried-found, tried-next, tried-none}
-use Rattle.ncal.proofs.place_among.Statement.{statement}
-use Rattle.ncal.proofs.place_among.Tie as tie
+use Rattle.names.specs.Laws.{Tried, tried-first, tried-found, tried-next, tried-none}
+use Rattle.names.proofs.place_among.Statement.{statement}
+use Rattle.names.proofs.place_among.Tie as tie
 
 abbrev Inv-loop : tie.InvT-loop
 Inv-loop name letters first k₀ at₀ k at = Tried name letters first k at
