@@ -1,10 +1,10 @@
--- `entry::in_four` meets its contract: the bytes before the first that is found are passed.
+-- `bytesearch::in_four` meets its contract: the bytes before the first that is found are passed.
 -- Assumes nothing.
-use Rattle.entry.specs.Laws.{in-four-first, in-four-at, in-four-none, past-one, past-two, past-three, past-four}
+use Rattle.bytesearch.specs.Laws.{in-four-first, in-four-at, in-four-none, past-one, past-two, past-three, past-four}
 use native.Mathlib.Omega.{arith}
 use borrow.Author.Needs.{needs}
-use Rattle.entry.proofs.in_four.Statement.{statement}
-use Rattle.entry.proofs.in_four.Tie as tie
+use Rattle.bytesearch.proofs.in_four.Statement.{statement}
+use Rattle.bytesearch.proofs.in_four.Tie as tie
 
 shared-slice-read-if1 : tie.Need-shared-slice-read-if1
 shared-slice-read-if1 c = search needs

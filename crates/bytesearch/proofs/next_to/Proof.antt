@@ -1,11 +1,11 @@
--- `entry::next_to` meets its contract. The loop's invariant is `Going`: what was passed is without the byte. The measure is what is left of the slice.
+-- `bytesearch::next_to` meets its contract. The loop's invariant is `Going`: what was passed is without the byte. The measure is what is left of the slice.
 -- Assumes nothing.
-use Rattle.entry.specs.Laws.{Going, going-start, going-on, going-found, going-ended}
+use Rattle.bytesearch.specs.Laws.{Going, going-start, going-on, going-found, going-ended}
 use native.Mathlib.Omega.{arith}
 use Prim.Native.Nat.{_-_}
 use lib.ListN.{length}
-use Rattle.entry.proofs.next_to.Statement.{statement}
-use Rattle.entry.proofs.next_to.Tie as tie
+use Rattle.bytesearch.proofs.next_to.Statement.{statement}
+use Rattle.bytesearch.proofs.next_to.Tie as tie
 
 abbrev Inv-loop : tie.InvT-loop
 Inv-loop s from b i₀ i = Going b s from i

@@ -1,10 +1,10 @@
--- `entry::up_to` meets its promise. The loop's invariant is `Going`: what was passed is without the byte. The measure is what is left before the end of the turns.
+-- `bytesearch::up_to` meets its promise. The loop's invariant is `Going`: what was passed is without the byte. The measure is what is left before the end of the turns.
 -- Assumes nothing.
-use Rattle.entry.specs.Laws.{Going, going-start, going-then, four-found, four-passed, eight-passed}
+use Rattle.bytesearch.specs.Laws.{Going, going-start, going-then, four-found, four-passed, eight-passed}
 use native.Mathlib.Omega.{arith}
 use Prim.Native.Nat.{_-_}
-use Rattle.entry.proofs.up_to.Statement.{statement}
-use Rattle.entry.proofs.up_to.Tie as tie
+use Rattle.bytesearch.proofs.up_to.Statement.{statement}
+use Rattle.bytesearch.proofs.up_to.Tie as tie
 
 abbrev Inv-loop : tie.InvT-loop
 Inv-loop s from b end i₀ i = Going b s from i
