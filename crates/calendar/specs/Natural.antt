@@ -7,7 +7,8 @@ use Rattle.days.specs.DayByDay.{OfYear, JulianStyle, style}
 use Rattle.days.specs.Held.{day, year, HeldYear}
 use Rattle.days.specs.Numbers.{number}
 use Rattle.days.specs.Runs.{Runs, top}
-use Rattle.inner.specs.Natural.{heldYear, MonthDayAt}
+use Rattle.inner.specs.Natural.{heldYear}
+use Rattle.monthdays.specs.Promise.{MonthDayAt}
 use Rattle.fields.specs.declared.Fields.{Fields}
 use Rattle.calendar.specs.declared.Calendar.{Calendar}
 use Rattle.calendar.specs.declared.Date.{Date}

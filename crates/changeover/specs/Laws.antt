@@ -17,10 +17,10 @@ use Rattle.days.specs.Months.{ordinal-within}
 use Rattle.days.specs.Table.{there-too}
 use Rattle.days.specs.Runs.{top, firstDay, first-cases}
 use Rattle.inner.specs.Natural.{heldYear}
-use Rattle.inner.specs.Promise.{OrdinalOf, ordinal, no-ordinal}
-use Rattle.inner.specs.One.{in-year-ordinal}
-use Rattle.inner.specs.Laws.{in-year-valid, in-year-month}
-use Rattle.inner.specs.declared.DayOrdinal.the-variants as DayOrdinal′
+use Rattle.monthdays.specs.Promise.{OrdinalOf, ordinal, no-ordinal}
+use Rattle.monthdays.specs.One.{in-year-ordinal}
+use Rattle.monthdays.specs.Laws.{in-year-valid, in-year-month}
+use Rattle.monthdays.specs.declared.DayOrdinal.the-variants as DayOrdinal′
 use Rattle.changeover.specs.declared.Spot as S
 use Rattle.changeover.specs.declared.Found.the-variants as Found′
 use Rattle.changeover.specs.declared.Read.the-variants as Read′

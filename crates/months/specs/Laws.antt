@@ -25,8 +25,8 @@ use Rattle.days.specs.Table.{there-too}
 use Rattle.days.specs.Calendars.{accepted-rises, skipped-nowhere}
 use Rattle.days.specs.Runs as Runs′
 use Rattle.days.specs.Runs.{Runs, top, julian-runs, gregorian-runs, firstDay, first-cases, first-julian, first-gregorian, julianMonth, gregorianMonth, monthFirst, monthPast, year-stretch, month-stretch, on-old, on-new, on-none}
-use Rattle.inner.specs.Promise.{OrdinalOf}
-use Rattle.inner.specs.declared.DayOrdinal.the-variants as DayOrdinal′
+use Rattle.monthdays.specs.Promise.{OrdinalOf}
+use Rattle.monthdays.specs.declared.DayOrdinal.the-variants as DayOrdinal′
 use Rattle.calendar.specs.declared.Calendar.{Calendar}
 use Rattle.refusals.specs.declared.Refusal.{Refusal}
 use Rattle.calendar.specs.declared.Counted.the-variants as Counted′

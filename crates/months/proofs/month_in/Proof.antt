@@ -3,8 +3,8 @@
 use Prim.Native.Nat.{_-_}
 use native.Mathlib.Omega.{arith}
 use borrow.Author.Needs.{needs}
-use Rattle.inner.specs.Promise.{OrdinalOf}
-use Rattle.inner.specs.declared.DayOrdinal.the-variants as DayOrdinal′
+use Rattle.monthdays.specs.Promise.{OrdinalOf}
+use Rattle.monthdays.specs.declared.DayOrdinal.the-variants as DayOrdinal′
 use Rattle.changeover.specs.Laws.{ordinal-some}
 use Rattle.calendar.specs.Laws.{month-has-first}
 use Rattle.months.specs.Laws.{month-in-is}

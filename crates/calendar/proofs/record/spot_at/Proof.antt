@@ -4,7 +4,7 @@ use mathlib.Core.Path.{_≡_, refl, subst}
 use Prim.Native.Nat.{ℕ, _+_, _-_}
 use native.Mathlib.Omega.{arith}
 use borrow.Author.Needs.{needs}
-use Rattle.inner.specs.Natural.{MonthDayAt}
+use Rattle.monthdays.specs.Promise.{MonthDayAt}
 use Rattle.calendar.proofs.record.spot_at.Statement.{statement}
 use Rattle.calendar.proofs.record.spot_at.Tie as tie
 

@@ -1,11 +1,11 @@
--- `inner::md2ordinal` meets its contract.
+-- `monthdays::md2ordinal` meets its contract.
 -- Assumes nothing.
 use native.Mathlib.Omega.{arith}
 use borrow.Author.Needs.{needs}
-use Rattle.inner.specs.Promise.{no-ordinal}
-use Rattle.inner.specs.Laws.{in-year-valid, month-there, ordinal-found, ordinal-few}
-use Rattle.inner.proofs.md2ordinal.Statement.{statement}
-use Rattle.inner.proofs.md2ordinal.Tie as tie
+use Rattle.monthdays.specs.Promise.{no-ordinal}
+use Rattle.monthdays.specs.Laws.{in-year-valid, month-there, ordinal-found, ordinal-few}
+use Rattle.monthdays.proofs.md2ordinal.Statement.{statement}
+use Rattle.monthdays.proofs.md2ordinal.Tie as tie
 
 returns : tie.Need-returns
 returns c = no-ordinal (λ o p. omega (arith, in-year-valid (c .before .args .leap) p .1))

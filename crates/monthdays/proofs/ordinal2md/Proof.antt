@@ -1,14 +1,14 @@
--- `inner::ordinal2md` meets its contract.
+-- `monthdays::ordinal2md` meets its contract.
 -- Assumes nothing.
 use mathlib.Core.Path.{_≡_, subst}
 use Prim.Native.Nat.{ℕ, _+_, _-_}
 use native.Mathlib.Omega.{arith}
 use borrow.Author.Needs.{needs}
-use Rattle.inner.specs.Natural.{MonthDayAt}
-use Rattle.inner.specs.Promise.{no-month-day}
-use Rattle.inner.specs.Laws.{in-year-to, month-answer}
-use Rattle.inner.proofs.ordinal2md.Statement.{statement}
-use Rattle.inner.proofs.ordinal2md.Tie as tie
+use Rattle.monthdays.specs.Promise.{MonthDayAt}
+use Rattle.monthdays.specs.Promise.{no-month-day}
+use Rattle.monthdays.specs.Laws.{in-year-to, month-answer}
+use Rattle.monthdays.proofs.ordinal2md.Statement.{statement}
+use Rattle.monthdays.proofs.ordinal2md.Tie as tie
 
 returns : tie.Need-returns
 returns c = no-month-day (λ m d p. omega (arith, p .from))

@@ -1,12 +1,12 @@
--- `inner::month_day` meets its contract.
+-- `monthdays::month_day` meets its contract.
 -- Assumes nothing.
 use mathlib.Core.Path.{refl}
 use Prim.Native.Nat.{_+_, _*_, _/_}
 use native.Mathlib.Omega.{arith}
 use borrow.Author.Needs.{needs}
-use Rattle.inner.specs.Laws.{month-day-at}
-use Rattle.inner.proofs.month_day.Statement.{statement}
-use Rattle.inner.proofs.month_day.Tie as tie
+use Rattle.monthdays.specs.Laws.{month-day-at}
+use Rattle.monthdays.proofs.month_day.Statement.{statement}
+use Rattle.monthdays.proofs.month_day.Tie as tie
 
 add-place : tie.Need-add-place
 add-place c = search needs

@@ -1,11 +1,11 @@
--- `inner::days_in_month` meets its contract, arm by arm.
+-- `monthdays::days_in_month` meets its contract, arm by arm.
 -- Assumes nothing.
 use native.Mathlib.Omega.{arith}
 use mathlib.Core.Path.{sym, _∙_, ap}
 use mathlib.Core.Bool.{Bool, cond}
 use Rattle.days.specs.Months.{february, short, long, no-month}
-use Rattle.inner.proofs.days_in_month.Statement.{statement}
-use Rattle.inner.proofs.days_in_month.Tie as tie
+use Rattle.monthdays.proofs.days_in_month.Statement.{statement}
+use Rattle.monthdays.proofs.days_in_month.Tie as tie
 
 returns : tie.Need-returns
 returns c = sym (no-month (c .before .args .leap) (c .before .args .month) (λ p. omega (arith, p .0)))

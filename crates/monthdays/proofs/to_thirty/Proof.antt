@@ -1,10 +1,10 @@
--- `inner::to_thirty` meets its contract.
+-- `monthdays::to_thirty` meets its contract.
 -- Assumes nothing.
 use Prim.Native.Nat.{_+_}
 use native.Mathlib.Omega.{arith}
 use borrow.Author.Tests.{lt-ltb, le-ltb}
-use Rattle.inner.proofs.to_thirty.Statement.{statement}
-use Rattle.inner.proofs.to_thirty.Tie as tie
+use Rattle.monthdays.proofs.to_thirty.Statement.{statement}
+use Rattle.monthdays.proofs.to_thirty.Tie as tie
 
 returns : tie.Need-returns
 returns c = (simp (c .before .if1 .taken, lt-ltb 60 (c .before .before .args .days + 1) (omega arith)), omega arith)

@@ -1,4 +1,4 @@
--- `inner::days_before` meets its contract.
+-- `monthdays::days_before` meets its contract.
 -- Assumes nothing.
 use mathlib.Core.Bool.{Bool, true, false, cond}
 use mathlib.Core.Path.{_≡_, sym, _∙_, ap}
@@ -6,10 +6,8 @@ use Prim.Native.Nat.{_<_, _≤_, _*_, _-_, _/_}
 use native.Mathlib.Omega.{arith}
 use borrow.Author.Needs.{needs}
 use borrow.Author.Tests.{lt-ltb, le-ltb}
-use Rattle.inner.proofs.days_before.Statement.{statement}
-use Rattle.inner.proofs.days_before.Tie as tie
-
--- `inner::days_before` meets its contract. Assumes nothing.
+use Rattle.monthdays.proofs.days_before.Statement.{statement}
+use Rattle.monthdays.proofs.days_before.Tie as tie
 
 mul-days : tie.Need-mul-days
 mul-days c = search needs
