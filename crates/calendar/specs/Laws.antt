@@ -24,11 +24,11 @@ use Rattle.days.specs.Table.{accepts-only, fits-held}
 use Rattle.days.specs.Calendars.{skipped-nowhere}
 use Rattle.days.specs.Runs.{Runs, reforming-runs, firstDay, first-cases, first-julian, yearFirst, monthFirst, julianMonth, gregorianMonth, year-plain, month-plain, year-stretch, ordinal-at, day-ordinal-at, on-old, on-new, in-gap, on-none}
 use Rattle.inner.specs.Natural.{heldDay, heldYear, Lowers, within, beyond}
-use Rattle.inner.specs.Promise.{OrdinalOf}
+use Rattle.monthdays.specs.Promise.{OrdinalOf}
 use Rattle.inner.specs.Laws.{held-day}
 use Rattle.inner.specs.declared.DayNumber.{DayNumber}
 use Rattle.inner.specs.declared.DayNumber.the-variants as DayNumber′
-use Rattle.inner.specs.declared.DayOrdinal.the-variants as DayOrdinal′
+use Rattle.monthdays.specs.declared.DayOrdinal.the-variants as DayOrdinal′
 use Rattle.fields.specs.declared.Fields.{Fields}
 use Rattle.fields.specs.Same.{IsSame}
 use Rattle.reformation.specs.Judging.{Judges, accepts-held, refuses-with-1, refuses-with-2, refused-not}

@@ -19,11 +19,11 @@ use Rattle.days.specs.Months.{ordinal-within}
 use Rattle.days.specs.Table.{there-too}
 use Rattle.days.specs.Steps.{month-some}
 use Rattle.days.specs.Runs.{top, firstDay, first-cases, julianMonth, gregorianMonth, monthFirst, monthPast}
-use Rattle.inner.specs.Natural.{heldYear, Month}
-use Rattle.inner.specs.Promise.{OrdinalOf, ordinal, no-ordinal}
-use Rattle.inner.specs.One.{in-year-ordinal}
-use Rattle.inner.specs.Laws.{in-year-valid, in-year-month}
-use Rattle.inner.specs.declared.DayOrdinal.the-variants as DayOrdinal′
+use Rattle.inner.specs.Natural.{heldYear}
+use Rattle.monthdays.specs.Promise.{Month, OrdinalOf, ordinal, no-ordinal}
+use Rattle.monthdays.specs.One.{in-year-ordinal}
+use Rattle.monthdays.specs.Laws.{in-year-valid, in-year-month}
+use Rattle.monthdays.specs.declared.DayOrdinal.the-variants as DayOrdinal′
 use Rattle.changeover.specs.declared.MonthSpan.{MonthSpan}
 use Rattle.changeover.specs.declared.Spanned.the-variants as Spanned′
 use Rattle.changeover.specs.declared.PlainMonth.{PlainMonth}

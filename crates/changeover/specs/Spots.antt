@@ -11,7 +11,8 @@ use Rattle.days.specs.Julian as J
 use Rattle.days.specs.Gregorian as G
 use Rattle.days.specs.Numbers.{There, number, daysBefore}
 use Rattle.days.specs.Runs.{top, yearFirst, gregorianMonth, monthFirst, monthPast}
-use Rattle.inner.specs.Natural.{heldYear, Month}
+use Rattle.inner.specs.Natural.{heldYear}
+use Rattle.monthdays.specs.Promise.{Month}
 use Rattle.changeover.specs.declared.MonthSpan.{MonthSpan}
 use Rattle.changeover.specs.declared.Spanned.{Spanned}
 use Rattle.changeover.specs.declared.Spanned.the-variants as Spanned′

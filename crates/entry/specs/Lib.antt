@@ -1,5 +1,5 @@
--- A line of a register. A reader's file is `Entry`: the name and the text of a line, and the answer to it. `One` shows that each promise allows one
--- result, and `Laws` has how bytes are passed one after another.
+-- A line of a register. A reader's file is `Entry`: the name and the text of a line, and the answer to it. `One` shows that the promise allows one
+-- result, and `Laws` has the parts of a line.
 pub mod Entry
 pub mod Laws
 pub mod One

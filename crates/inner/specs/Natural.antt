@@ -5,7 +5,6 @@ use Prim.Native.Nat.{ℕ, _+_, _-_, _/_, _≤_, _<_}
 use Rattle.days.specs.DayByDay.{Is32Bit}
 use Rattle.days.specs.Held.{day, HeldDay}
 use Rattle.days.specs.Year.{yearLength}
-use Rattle.days.specs.Numbers.{daysBefore, monthAt}
 use Rattle.inner.specs.declared.DayNumber.{DayNumber}
 use Rattle.inner.specs.declared.DayNumber.the-variants as DayNumber′
 
@@ -29,11 +28,3 @@ pub data OrdinalNumber (leap : Bool) (start o : ℕ) : DayNumber → Type 0 wher
 pub record VirtualPoint (r p : ℕ) : Type 0 where
   pub first-year : r < 366 → p ≡ r + 1
   pub later-year : 366 ≤ r → p ≡ r + (r - 366) / 36_524 + 1
-
-abbrev pub Month : ℕ → Type 0
-Month m = (1 ≤ m) × (m ≤ 12)
-
--- day d of month m has the place o in a year; past the year's end, in months that would follow by the same arithmetic
-pub record MonthDayAt (leap : Bool) (o m d : ℕ) : Type 0 where
-  pub month-is : m ≡ monthAt leap o
-  pub day-is : daysBefore leap m + d ≡ o

@@ -2,7 +2,8 @@
 use mathlib.Core.Path.{_≡_}
 use mathlib.Core.Bool.{Bool}
 use Prim.Native.Nat.{ℕ}
-use Rattle.inner.specs.Natural.{heldYear, MonthDayAt}
+use Rattle.inner.specs.Natural.{heldYear}
+use Rattle.monthdays.specs.Promise.{MonthDayAt}
 use Rattle.changeover.specs.declared.Spot.{Spot}
 use Rattle.changeover.specs.Spots.{LabelledAt, spot}
 

@@ -7,8 +7,9 @@ use Rattle.days.specs.Held.{HeldYear}
 use Rattle.days.specs.Starts.{Spot}
 use Rattle.days.specs.Julian as J
 use Rattle.days.specs.Gregorian as G
-use Rattle.inner.specs.Natural.{heldYear, MonthDayAt}
-use Rattle.inner.specs.Laws.{month-day-in}
+use Rattle.inner.specs.Natural.{heldYear}
+use Rattle.monthdays.specs.Promise.{MonthDayAt}
+use Rattle.monthdays.specs.Laws.{month-day-in}
 use Rattle.changeover.specs.declared.Spot as S
 use Rattle.changeover.specs.Spots.{At, old, new}
 use Rattle.labels.specs.Labels.{OnSpot, SpotOn, SpotAt}

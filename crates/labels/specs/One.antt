@@ -12,9 +12,10 @@ use Rattle.days.specs.Gregorian as G
 use Rattle.days.specs.Numbers.{There, daysBefore, before}
 use Rattle.days.specs.Months.{ordinal-within}
 use Rattle.inner.specs.Natural.{heldYear}
-use Rattle.inner.specs.Promise.{InYear}
-use Rattle.inner.specs.Laws.{in-year-month}
-use Rattle.inner.specs.One.{in-year-one, spot-one}
+use Rattle.monthdays.specs.Promise.{InYear}
+use Rattle.monthdays.specs.Laws.{in-year-month}
+use Rattle.inner.specs.One.{spot-one}
+use Rattle.monthdays.specs.One.{in-year-one}
 use Rattle.changeover.specs.declared.Spot.{Spot}
 use Rattle.changeover.specs.Spots.{At, old, new, spot}
 use Rattle.changeover.specs.Laws.{at-from}

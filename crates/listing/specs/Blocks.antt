@@ -17,7 +17,8 @@ use Rattle.writer.specs.Puts.{put-none, length-put, wrote, left-alone}
 use Rattle.writer.specs.declared.Written.{Written}
 use Rattle.numbertext.specs.Numerals.{refusal as textRefusal}
 use Rattle.refusals.specs.declared.Refusal.{Refusal}
-use Rattle.entry.specs.Entry.{Without, UpTo, LineAnswer}
+use Rattle.bytesearch.specs.Promise.{Without, UpTo}
+use Rattle.entry.specs.Entry.{LineAnswer}
 use Rattle.linetext.specs.Line.{newline, LineOut, Copies, copied, no-room}
 use Rattle.linetext.specs.declared.Row.{Row}
 use Rattle.linetext.specs.declared.Line.{Line}

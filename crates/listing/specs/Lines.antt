@@ -8,8 +8,9 @@ use Rattle.days.specs.DayByDay.{weekday}
 use Rattle.calendar.specs.declared.Date.{Date}
 use Rattle.calendar.specs.declared.Dated.{Dated}
 use Rattle.calendar.specs.declared.Dated.the-variants as Dated′
-use Rattle.ncal.specs.Table.{bytes}
-use Rattle.entry.specs.Entry.{Without, LineAnswer}
+use Rattle.names.specs.Table.{bytes}
+use Rattle.bytesearch.specs.Promise.{Without}
+use Rattle.entry.specs.Entry.{LineAnswer}
 use Rattle.linetext.specs.declared.Row.{Row}
 use Rattle.linetext.specs.declared.Line.{Line}
 use Rattle.linetext.specs.declared.Line.the-variants as Line′

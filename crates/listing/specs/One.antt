@@ -10,7 +10,8 @@ use Rattle.writer.specs.Writing.{put, Writes}
 use Rattle.writer.specs.Theorems.{writes-one}
 use Rattle.writer.specs.declared.Written.{Written}
 use Rattle.entry.specs.Entry.{LineAnswer}
-use Rattle.entry.specs.One.{parted-one, never-parted, line-answer-one}
+use Rattle.bytesearch.specs.One.{parted-one, never-parted}
+use Rattle.entry.specs.One.{line-answer-one}
 use Rattle.linetext.specs.Line.{newline, Ended}
 use Rattle.linetext.specs.One.{ended-one}
 use Rattle.listing.specs.Lines.{header, Lines, lineOf, Listed, listed, AllListed, Listing, listing}

@@ -13,8 +13,9 @@ use lib.Seq.{take-at, drop-drop, drop-at, length-take-le, drop-length}
 use Rattle.calendar.specs.Rows.{refuses}
 use Rattle.writer.specs.Writing.{put}
 use Rattle.writer.specs.Puts.{put-none, put-then, length-put}
-use Rattle.entry.specs.Entry.{Without, LineAnswer}
-use Rattle.entry.specs.Laws.{without-both}
+use Rattle.bytesearch.specs.Promise.{Without}
+use Rattle.bytesearch.specs.Laws.{without-both}
+use Rattle.entry.specs.Entry.{LineAnswer}
 use Rattle.linetext.specs.Line.{newline}
 use Rattle.listing.specs.Lines.{header, Lines, Listed, listed, AllListed, Listing, listing}
 use Rattle.listing.specs.Blocks.{Fills, HeldAnswer, HeldLine, LastLine, Stand, stand, Turn, Lists}

@@ -1,37 +1,33 @@
--- From what the private functions say to the promise. A test of each group of names is computed once, and every row follows.
+-- From the number of a name to the promise. One test of all names and one of all rows are computed: each name has a row, and the name of each row is
+-- one of the names.
 -- Assumes nothing.
-use mathlib.Core.Path.{_≡_, refl, sym, _∙_, ap, ap₂, subst}
-use mathlib.Core.Bool.{Bool, true, false, not, cond, _&&_}
-use mathlib.Core.List.{List, [], _∷_, map}
+use mathlib.Core.Path.{_≡_, refl, sym, _∙_, ap, subst}
+use mathlib.Core.Bool.{Bool, true, false, _&&_, _||_}
+use mathlib.Core.List.{List, [], _∷_, map, List·Memᴰ, List·Memᴰ·head, List·Memᴰ·tail}
 use mathlib.Core.Logic.{⊎-elim}
-use Prim.Native.Nat.{ℕ, suc, _+_, _-_, _*_, _<_, _≤_}
+use Prim.Native.Nat.{ℕ, _+_, _<_}
 use native.Mathlib.Omega.{arith}
-use native.Mathlib.Nat.{mul-le-mul-right, add-mul, one-mul, not-suc-le-zero}
-use borrow.Author.Count.{below-more}
-use lib.Dec.{T, eqb, leb, ltb, eqb→eq, eqb-refl, le→leb, T-not}
-use lib.ListN.{length, getD, take, drop, length-drop, List·getD-map}
-use lib.Seq.{length-take-le, getD-take, getD-drop, ext-getD}
-use mir.Facts.{and-yes, yes-and, leb-yes, ltb-yes}
-use Rattle.whole.specs.Tests.{lt-or-ge}
+use lib.Dec.{T, ltb}
+use lib.ListN.{length, getD, take, drop, List·getD-map}
+use lib.Seq.{getD-take, getD-drop}
+use mir.Facts.{and-yes, or-yes, ltb-yes}
+use Rattle.names.specs.declared.Place.the-variants.{At, Nowhere}
+use Rattle.names.specs.Table.{bytes, names}
+use Rattle.names.specs.Promise.{nameAt, IsName, Found}
+use Rattle.names.specs.Every.{every, every-at, number-of, entry-at, eqList, eq-list}
+use Rattle.names.specs.Laws.{at-name}
 use Rattle.calendar.specs.Rows.{refuses, passes}
 use Rattle.calendar.specs.declared.Calendar.{Calendar}
 use Rattle.calendar.specs.declared.Calendar.the-variants.{Julian}
 use Rattle.calendar.specs.declared.Reformed.the-variants as Reformed′
-use Rattle.ncal.specs.declared.Place.{Place}
-use Rattle.ncal.specs.declared.Place.the-variants.{At, Nowhere}
-use Rattle.ncal.specs.Table.{bytes, Row, row, table}
+use Rattle.ncal.specs.Table.{Row, row, table}
 use Rattle.ncal.specs.Promise.{InTable, Known, NamesCalendar, unknownName, of-row}
-use Rattle.ncal.specs.Search.{order, rowAt, nameAt, calendarAt, Found, part, IsPart, Placed, placed, nowhere}
-use Rattle.ncal.specs.Every.{every, every-at, number-of, entry-at, eqList, eq-list}
+use Rattle.ncal.specs.Search.{rowAt, rowNumber, calendarAt}
 
 -- ---- Rows by number
 rows : length table ≡ 36
 unfolding table
 rows = refl
-
-ordered : length order ≡ 36
-unfolding order table bytes
-ordered = refl
 
 abbrev pub EveryRow : (ℕ → Row → Bool) → Type 0
 EveryRow f = T (every f 0 table)
@@ -42,182 +38,52 @@ at-row f t i h = every-at f (row [] Julian) table t i (omega (arith, rows))
 pub row-of : {s : List ℕ} {c : Calendar} → InTable s c → (i : ℕ) × (i < 36) × (row s c ≡ rowAt i)
 row-of m = let (i, h, e) = number-of (row [] Julian) table m in (i, omega (arith, rows), e)
 
--- ---- The order of the code has every row
-abbrev pub EveryNumber : (ℕ → ℕ → Bool) → Type 0
-EveryNumber f = T (every f 0 order)
+-- ---- Each name has a row
+hasRow : ℕ → List ℕ → Bool
+hasRow k s = ltb (rowNumber s) 36 && eqList s (rowAt (rowNumber s) .name)
 
-at-number : (f : ℕ → ℕ → Bool) → EveryNumber f → (k : ℕ) → k < 36 → T (f k (getD order k 0))
-at-number f t k h = every-at f 0 order t k (omega (arith, ordered))
+own-row : (k : ℕ) → k < 36 → T (hasRow k (nameAt k))
+unfolding hasRow table names bytes
+own-row = at-name hasRow tt
 
-isRow : ℕ → ℕ → Bool
-isRow k i = ltb i 36
-
-row-number : (k : ℕ) → k < 36 → T (isRow k (getD order k 0))
-unfolding isRow order table bytes
-row-number = at-number isRow tt
-
-pub in-table : (k : ℕ) → k < 36 → InTable (nameAt k) (calendarAt k)
-unfolding isRow
+in-table : (k : ℕ) → k < 36 → InTable (nameAt k) (calendarAt k)
+unfolding hasRow
 in-table k h =
-    let g : getD order k 0 < 36 = ltb-yes (row-number k h) in
-    entry-at (row [] Julian) table (getD order k 0) (omega (arith, rows))
+    let i : ℕ = rowNumber (nameAt k) in
+    let (a, b) = and-yes (ltb i 36) _ (own-row k h) in
+    let g : i < 36 = ltb-yes a in
+    subst (λ (s : List ℕ). InTable s (calendarAt k)) (sym (eq-list _ _ b)) (entry-at (row [] Julian) table i (omega (arith, rows)))
 
--- the place of i in a list, counted from k
-placeIn : ℕ → ℕ → List ℕ → ℕ
-placeIn i k [] = k
-placeIn i k (x ∷ xs) = cond (eqb i x) k (placeIn i (suc k) xs)
+-- ---- The name of each row is a name
+isAmong : List ℕ → List (List ℕ) → Bool
+isAmong s [] = false
+isAmong s (t ∷ ts) = eqList s t || isAmong s ts
 
-hasPlace : ℕ → Row → Bool
-hasPlace i r = ltb (placeIn i 0 order) 36 && eqb (getD order (placeIn i 0 order) 0) i
+among : (s : List ℕ) (l : List (List ℕ)) → T (isAmong s l) → List·Memᴰ s l
+unfolding isAmong
+among s [] h = absurd h
+among s (t ∷ ts) h = ⊎-elim (λ e. List·Memᴰ·head (eq-list s t e)) (λ r. List·Memᴰ·tail (among s ts r)) (or-yes (eqList s t) (isAmong s ts) h)
 
-own-place : (i : ℕ) → i < 36 → T (hasPlace i (rowAt i))
-unfolding hasPlace placeIn order table bytes
-own-place = at-row hasPlace tt
+hasName : ℕ → Row → Bool
+hasName i r = isAmong (r .name) names
 
-pub known-number : {s : List ℕ} → Known s → (k : ℕ) × (k < 36) × (s ≡ nameAt k)
-unfolding hasPlace
-known-number (c, m) =
-    let (i, h, e) = row-of m in
-    let (a, b) = and-yes (ltb (placeIn i 0 order) 36) _ (own-place i h) in
-    let q : getD order (placeIn i 0 order) 0 ≡ i = eqb→eq _ _ b in
-    (placeIn i 0 order, ltb-yes a, ap (λ (r : Row). r .name) e ∙ ap (λ (j : ℕ). rowAt j .name) (sym q))
+known-name : {s : List ℕ} → Known s → IsName s
+unfolding hasName isAmong table names bytes
+known-name (c, m) = let (i, h, e) = row-of m in subst IsName (ap (λ (r : Row). r .name) (sym e)) (among _ names (at-row hasName tt i h))
 
--- ---- The calendars in that order
+-- ---- The calendars in the order of the names
 unfoldable pub calendars : List Calendar
-calendars = map (λ (i : ℕ). rowAt i .calendar) order
+calendars = map (λ (s : List ℕ). rowAt (rowNumber s) .calendar) names
 
 pub calendar-among : (a n j k : ℕ) → a + j ≡ k → j < n → getD (take n (drop a calendars)) j Julian ≡ calendarAt k
-unfolding calendars table
+unfolding calendars table bytes
 calendar-among a n j k e h =
     getD-take n (drop a calendars) j Julian h ∙ getD-drop a calendars j Julian ∙ ap (λ (i : ℕ). getD calendars i Julian) e
-    ∙ List·getD-map (λ (i : ℕ). rowAt i .calendar) order k 0
-
--- ---- Bytes of a part of the letters
-module _ (s letters : List ℕ) (at : ℕ) (fits : at + length s ≤ length letters) where
-  part-byte : (i : ℕ) → i < length s → getD (take (length s) (drop at letters)) i 0 ≡ getD letters (at + i) 0
-  part-byte i h = getD-take (length s) (drop at letters) i 0 h ∙ getD-drop at letters i 0
-
-  pub other-byte : (i : ℕ) → i < length s → ¬ (getD s i 0 ≡ getD letters (at + i) 0) → ¬ (s ≡ take (length s) (drop at letters))
-  other-byte i h n e = n (ap (λ (t : List ℕ). getD t i 0) e ∙ part-byte i h)
-
-  pub all-bytes : ((i : ℕ) → i < length s → getD s i 0 ≡ getD letters (at + i) 0) → s ≡ take (length s) (drop at letters)
-  all-bytes f = ext-getD 0 s (take (length s) (drop at letters)) (sym (length-take-le (length s) (drop at letters) room)) (λ i h. f i h ∙ sym (part-byte i h))
-    where
-      room : length s ≤ length (drop at letters)
-      room = subst (λ (n : ℕ). length s ≤ n) (sym (length-drop at letters)) (omega arith)
-
--- ---- One part after the other
-
--- the parts before the one at `at`, which would have the number k, are not s
-pub record Tried (s letters : List ℕ) (first k at : ℕ) : Type 0 where
-  pub turn : ℕ
-  pub number : k ≡ first + turn
-  pub start : at ≡ turn * length s
-  pub few : turn ≤ at
-  pub within : at ≤ length letters
-  pub before : (j : ℕ) → j < turn → ¬ IsPart s letters j
-
-pub tried-first : (s letters : List ℕ) (first : ℕ) → Tried s letters first first 0
-tried-first s letters first = record { turn = 0; number = omega arith; start = omega arith; few = omega arith; within = omega arith; before = λ j h. absurd (not-suc-le-zero h) }
-
-module _ {s letters : List ℕ} {first k at : ℕ} (t : Tried s letters first k at) where
-  pub tried-found : at + length s ≤ length letters → s ≡ take (length s) (drop at letters) → Placed s letters first (At k)
-  tried-found h e = placed (t .turn) (t .number) (subst (λ (n : ℕ). (n + length s ≤ length letters) × (s ≡ take (length s) (drop n letters))) (t .start) (h, e))
-
-  pub tried-next : 1 ≤ length s → at + length s ≤ length letters → ¬ (s ≡ take (length s) (drop at letters)) → Tried s letters first (k + 1) (at + length s)
-  tried-next some h n = record {
-    turn = t .turn + 1;
-    number = omega (arith, t .number);
-    start = sym (add-mul (t .turn) 1 (length s) ∙ ap₂ (λ (a b : ℕ). a + b) (sym (t .start)) (one-mul (length s)));
-    few = omega (arith, t .few);
-    within = h;
-    before = below-more _ _ (t .before) (λ i. n (subst (λ (m : ℕ). s ≡ take (length s) (drop m letters)) (sym (t .start)) (i .1)));
-  }
-
-  pub tried-none : length letters - at < length s → Placed s letters first Nowhere
-  tried-none h = nowhere (λ j i. ⊎-elim (λ g. t .before j g i) (λ g. never j (i .0) (mul-le-mul-right (length s) g)) (lt-or-ge j (t .turn)))
-    where
-      never : (j : ℕ) → j * length s + length s ≤ length letters → t .turn * length s ≤ j * length s → ⊥
-      never j i g = omega (arith, t .start)
-
--- ---- The names of one length
-
--- row k is one of the parts, counted from `first`, or its name has another length
-abbrev pub inGroup : ℕ → ℕ → List ℕ → ℕ → Bool
-inGroup n first letters k = leb first k && leb ((k - first) * n + n) (length letters)
-
-abbrev pub grouped : ℕ → ℕ → List ℕ → ℕ → ℕ → Bool
-grouped n first letters k i = cond (inGroup n first letters k) (eqList (rowAt i .name) (part n (k - first) letters)) (not (eqb (length (rowAt i .name)) n))
-
-pick-yes : (b x y : Bool) → T (cond b x y) → T b → T x
-pick-yes true x y t h = t
-pick-yes false x y t h = absurd h
-
-pick-no : (b x y : Bool) → T (cond b x y) → (T b → ⊥) → T y
-pick-no true x y t n = absurd (n tt)
-pick-no false x y t n = t
-
-by-test : {A : Type 0} (b : Bool) → (T b → A) → ((T b → ⊥) → A) → A
-by-test true f g = f tt
-by-test false f g = g (λ t. t)
-
-module _ (n first : ℕ) (letters : List ℕ) (some : 1 ≤ n) (few : T (leb (length letters) ((36 - first) * n))) (right : EveryNumber (grouped n first letters)) where
-  test : (k : ℕ) → k < 36 → T (cond (inGroup n first letters k) (eqList (nameAt k) (part n (k - first) letters)) (not (eqb (length (nameAt k)) n)))
-  test = at-number (grouped n first letters) right
-
-  few-parts : (j : ℕ) → j * n + n ≤ length letters → first + j < 36
-  few-parts j h = ⊎-elim (λ g. omega arith) (λ g. absurd (never (mul-le-mul-right n g))) (lt-or-ge j (36 - first))
-    where
-      never : (36 - first) * n ≤ j * n → ⊥
-      never g = let l : length letters ≤ (36 - first) * n = leb-yes few in omega arith
-
-  part-name : (j : ℕ) → j * n + n ≤ length letters → nameAt (first + j) ≡ part n j letters
-  part-name j h =
-      let e : first + j - first ≡ j = omega arith in
-      eq-list _ _ (subst (λ (i : ℕ). T (eqList (nameAt (first + j)) (part n i letters))) e
-      (pick-yes (inGroup n first letters (first + j)) _ _ (test (first + j) (few-parts j h))
-      (yes-and (leb first (first + j)) (leb ((first + j - first) * n + n) (length letters)) (le→leb first (first + j) (omega arith)) (le→leb ((first + j - first) * n + n) (length letters) (subst (λ (i : ℕ). i * n + n ≤ length letters) (sym e) h)))))
-
-  -- a name of this length has the number of its part; one that is no part is none
-  found-in : {s : List ℕ} {p : Place} → length s ≡ n → Placed s letters first p → Found s p
-  found-in {s} e (placed j q (h, w)) =
-      let g : j * n + n ≤ length letters = subst (λ (m : ℕ). j * m + m ≤ length letters) e h in
-      subst (λ (k : ℕ). (k < 36) × (s ≡ nameAt k)) (sym q)
-      (few-parts j g, w ∙ ap (λ (m : ℕ). part m j letters) e ∙ sym (part-name j g))
-  found-in {s} e (nowhere f) = λ m.
-      let (k, h, w) = known-number m in
-      by-test (inGroup n first letters k)
-      (λ g. f (k - first) (is-part k g (w ∙ eq-list _ _ (pick-yes (inGroup n first letters k) _ _ (test k h) g))))
-      (λ g. T-not (eqb (length (nameAt k)) n) (pick-no (inGroup n first letters k) _ _ (test k h) g) (subst (λ (l : ℕ). T (eqb l n)) (sym e ∙ ap length w) (eqb-refl n)))
-    where
-      is-part : (k : ℕ) → T (inGroup n first letters k) → s ≡ part n (k - first) letters → IsPart s letters (k - first)
-      is-part k g w = subst (λ (m : ℕ). ((k - first) * m + m ≤ length letters) × (s ≡ part m (k - first) letters)) (sym e) (leb-yes (and-yes (leb first k) _ g .1), w)
-
-pub in-group : {n first : ℕ} {s letters : List ℕ} {p : Place} → Placed s letters first p → length s ≡ n → T (ltb 0 n && leb (length letters) ((36 - first) * n)) → EveryNumber (grouped n first letters) → Found s p
-in-group {n} {first} {letters = letters} w e t right = let (a, b) = and-yes (ltb 0 n) _ t in found-in n first letters (ltb-yes a) b right e w
-
--- ---- Names of no length that a name has
-hasLength : ℕ → Row → Bool
-hasLength i r = leb 5 (length (r .name)) && (leb (length (r .name)) 14 && not (eqb (length (r .name)) 12))
-
-pub known-length : {s : List ℕ} → Known s → (5 ≤ length s) × (length s ≤ 14) × (length s ≡ 12 → ⊥)
-unfolding hasLength table bytes
-known-length {s} (c, m) =
-    let (i, h, e) = row-of m in
-    let (a, u) = and-yes (leb 5 (length (rowAt i .name))) _ (at-row hasLength tt i h) in
-    let (b, v) = and-yes (leb (length (rowAt i .name)) 14) _ u in
-    subst (λ (t : List ℕ). (5 ≤ length t) × (length t ≤ 14) × (length t ≡ 12 → ⊥)) (ap (λ (r : Row). r .name) (sym e))
-    (leb-yes a, leb-yes b, λ q. T-not (eqb (length (rowAt i .name)) 12) v (subst (λ (l : ℕ). T (eqb l 12)) (sym q) tt))
-
-pub beyond : (l n : ℕ) → n ≤ l → (l ≡ n → ⊥) → n + 1 ≤ l
-beyond l n h g = omega arith
-
-pub too-long : (l : ℕ) → 15 ≤ l → l ≤ 14 → ⊥
-too-long l h g = omega arith
+    ∙ List·getD-map (λ (s : List ℕ). rowAt (rowNumber s) .calendar) names k []
 
 -- ---- The answer
 pub is-named : {s : List ℕ} {k : ℕ} → Found s (At k) → NamesCalendar s (Reformed′.Calendar (calendarAt k))
 is-named {s} {k} (h, e) = let m : InTable s (calendarAt k) = subst (λ (t : List ℕ). InTable t (calendarAt k)) (sym e) (in-table k h) in passes (calendarAt k, m) (of-row m)
 
 pub not-named : {s : List ℕ} → Found s Nowhere → NamesCalendar s unknownName
-not-named n = refuses n
+not-named n = refuses (λ m. n (known-name m))

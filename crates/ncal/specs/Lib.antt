@@ -1,9 +1,8 @@
--- The calendar names. A reader's files are `Table`, which stands beside `ncal.rs`, and `Promise`. `Theorems` shows that the names are distinct, that
+-- The calendars by name. A reader's files are `Table`, which stands beside `ncal.rs`, and `Promise`. `Theorems` shows that the names are distinct, that
 -- the promise allows one result, and that every calendar of the table is accepted.
--- `Search` has what the private functions say, `Every` how one test shows all rows, and `Laws` goes from there to the promise.
+-- `Search` has what the private function says, and `Laws` goes from there to the promise.
 pub mod Table
 pub mod Promise
 pub mod Search
-pub mod Every
 pub mod Laws
 pub mod Theorems

@@ -2,16 +2,11 @@
 -- Assumes nothing.
 use mathlib.Core.List.{List, [], _∷_}
 use Prim.Native.Nat.{ℕ}
-use Prim.Native.Char.{code}
-use Prim.Native.String.{String, [] as none, _∷_ as _then_}
+use Prim.Native.String.{String}
 use lib.IntN.{pos}
+use Rattle.names.specs.Table.{bytes}
 use Rattle.calendar.specs.declared.Calendar.{Calendar}
 use Rattle.calendar.specs.declared.Calendar.the-variants.{Julian, Gregorian, Reforming}
-
--- the bytes of a text of ASCII letters
-unfoldable pub bytes : String → List ℕ
-bytes none = []
-bytes (c then s) = code c ∷ bytes s
 
 -- a row: a name in bytes, and its calendar
 pub record Row : Type 0 where

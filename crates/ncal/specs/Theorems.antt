@@ -1,11 +1,11 @@
 -- The names are distinct, the promise allows one result, and every calendar of the table is accepted.
 -- Assumes nothing.
 use mathlib.Core.Path.{_≡_, sym, _∙_, ap, subst}
-use mathlib.Core.Bool.{Bool, true, cond, _&&_}
-use mathlib.Core.List.{List, [], _∷_}
-use Prim.Native.Nat.{ℕ, suc, _<_}
+use mathlib.Core.Bool.{Bool, true, _&&_}
+use mathlib.Core.List.{List, []}
+use Prim.Native.Nat.{ℕ, _<_}
 use native.Mathlib.Omega.{arith}
-use lib.Dec.{T, eqb, eqb→eq}
+use lib.Dec.{T}
 use lib.IntN.{ℤ, pos}
 use lib.Signed.{leZ, leZ-yes, _≤ℤ_}
 use mir.Facts.{and-yes}
@@ -20,28 +20,16 @@ use Rattle.calendar.specs.declared.Calendar.{Calendar}
 use Rattle.calendar.specs.declared.Calendar.the-variants.{Julian, Gregorian, Reforming}
 use Rattle.calendar.specs.declared.Reformed.{Reformed}
 use Rattle.calendar.specs.declared.Reformed.the-variants as Reformed′
-use Rattle.ncal.specs.Table.{bytes, Row, table}
+use Rattle.names.specs.Table.{bytes}
+use Rattle.names.specs.Every.{distinct}
+use Rattle.ncal.specs.Table.{Row, row, table}
 use Rattle.ncal.specs.Promise.{InTable, OfRow, of-row, NamesCalendar}
 use Rattle.ncal.specs.Search.{rowAt}
-use Rattle.ncal.specs.Every.{eqList}
 use Rattle.ncal.specs.Laws.{at-row, row-of}
 
--- ---- The names are distinct
-
--- the number of the first row with a name, counted from i
-firstWith : List ℕ → ℕ → List Row → ℕ
-firstWith s i [] = i
-firstWith s i (r ∷ rs) = cond (eqList s (r .name)) i (firstWith s (suc i) rs)
-
-isFirst : ℕ → Row → Bool
-isFirst k r = eqb (firstWith (r .name) 0 table) k
-
-first : (k : ℕ) → k < 36 → firstWith (rowAt k .name) 0 table ≡ k
-unfolding isFirst firstWith table bytes
-first k h = eqb→eq _ _ (at-row isFirst tt k h)
-
 pub names-distinct : (j k : ℕ) → j < 36 → k < 36 → rowAt j .name ≡ rowAt k .name → j ≡ k
-names-distinct j k g h e = sym (first j g) ∙ ap (λ (s : List ℕ). firstWith s 0 table) e ∙ first k h
+unfolding table bytes
+names-distinct j k g h = distinct (λ (r : Row). r .name) (row [] Julian) table tt j k g h
 
 -- ---- One result
 one-row : {s : List ℕ} {b c : Calendar} → InTable s b → InTable s c → b ≡ c

@@ -1,7 +1,8 @@
 -- What the calls promise: the rows of the table of refusals that each can meet, in the table's order, and then its answer.
 use Prim.Native.Nat.{ℕ}
 use lib.IntN.{ℤ}
-use Rattle.days.specs.DayByDay.{Is32Bit, UnixTime}
+use Rattle.days.specs.DayByDay.{UnixTime}
+use Rattle.seconds.specs.Promise.{On32BitDay}
 use Rattle.calendar.specs.declared.Calendar.{Calendar}
 use Rattle.calendar.specs.declared.Date.{Date}
 use Rattle.calendar.specs.Calendars.{Accepted, IsRecord}
@@ -11,13 +12,6 @@ use Rattle.unixtime.specs.declared.DayTime.{DayTime}
 use Rattle.unixtime.specs.declared.DayTime.the-variants as DayTime′
 use Rattle.unixtime.specs.declared.Timed.{Timed}
 use Rattle.unixtime.specs.declared.Timed.the-variants as Timed′
-
--- the time t lies on a day of 32 bits
-pub record On32BitDay (t : ℤ) : Type 0 where
-  pub on-day : ℤ
-  pub seconds : ℕ
-  pub day-fits : Is32Bit on-day
-  pub is-time : UnixTime t on-day seconds
 
 -- the day of the time t, and the seconds into it
 pub data DayTimeOf (t : ℤ) : DayTime → Type 0 where

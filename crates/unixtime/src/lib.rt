@@ -1,9 +1,6 @@
-// Unix time: the day and the seconds into it of a number of seconds since 1970, and back. The seconds are counted as naturals from the
-// start of the lowest day, so that a quotient is a floor on both sides of 1970.
+// Unix time: the day and the date of a number of seconds since 1970, and the seconds into that day.
 
-ghost use mathlib.Core.Path.{_≡_};
-ghost use Rattle.days.specs.DayByDay.{UnixTime};
-ghost use Rattle.unixtime.specs.Promise.{refusedTime, Unix2Jdn, AtUnixTime};
+ghost use Rattle.unixtime.specs.Promise.{Unix2Jdn, AtUnixTime};
 use calendar::Calendar;
 use calendar::Date;
 use calendar::Dated;
@@ -11,10 +8,9 @@ use calendar::Refusal;
 use calendar::Switch;
 use calendar::refusal_of;
 use calendar::switch_of;
-use whole::lowered;
-use whole::lowered64;
-use whole::raised;
-use whole::raised64;
+use seconds::DaySecond;
+use seconds::day_second;
+pub use seconds::jdn2unix;
 
 // ---- Answers: each is what was asked for, or the refusal
 
@@ -32,35 +28,14 @@ pub enum Timed {
 
 // ---- Calls
 
-fn refused_time(t: i64) -> DayTime
-    ensures { λ a. ⌜ a ≡ refusedTime t ⌝ }
-{
-    DayTime::Refused(refusal_of(17, t))
-}
-
-// The lowest day starts 185753453990400 seconds before 1970, and the days of 32 bits have 371085174374400 seconds.
+// The day of a time, and the seconds into it.
 pub fn unix2jdn(t: i64) -> DayTime
     ensures { λ a. ⌜ Unix2Jdn t a ⌝ }
 {
-    let raised_time = raised64(t);
-    if raised_time < 9_223_186_283_400_785_408 {
-        return refused_time(t);
+    match day_second(t) {
+        DaySecond::At(jdn, seconds) => DayTime::At(jdn, seconds),
+        DaySecond::Outside32 => DayTime::Refused(refusal_of(17, t)),
     }
-    let elapsed = raised_time - 9_223_186_283_400_785_408;
-    if 371_085_174_374_399 < elapsed {
-        return refused_time(t);
-    }
-    let day = (elapsed / 86_400) as u32;
-    let seconds = (elapsed % 86_400) as u32;
-    DayTime::At(lowered(day), seconds)
-}
-
-// The second at which a day begins.
-pub fn jdn2unix(jdn: i32) -> i64
-    ensures { λ t. ⌜ UnixTime t jdn 0 ⌝ }
-{
-    let elapsed = raised(jdn) as u64 * 86_400;
-    lowered64(elapsed + 9_223_186_283_400_785_408)
 }
 
 // The date of a time, and the seconds into its day.

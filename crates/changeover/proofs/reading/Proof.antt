@@ -3,8 +3,8 @@
 use Prim.Native.Nat.{_-_}
 use native.Mathlib.Omega.{arith}
 use borrow.Author.Needs.{needs}
-use Rattle.inner.specs.Promise.{OrdinalOf}
-use Rattle.inner.specs.declared.DayOrdinal.the-variants as DayOrdinal′
+use Rattle.monthdays.specs.Promise.{OrdinalOf}
+use Rattle.monthdays.specs.declared.DayOrdinal.the-variants as DayOrdinal′
 use Rattle.changeover.specs.Laws.{reading-at, reading-none, ordinal-some}
 use Rattle.changeover.proofs.reading.Statement.{statement}
 use Rattle.changeover.proofs.reading.Tie as tie

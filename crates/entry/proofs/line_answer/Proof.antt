@@ -1,6 +1,7 @@
 -- `entry::line_answer` meets its promise: 20, or the name and the text of the line lead to the answer.
 -- Assumes nothing.
-use Rattle.entry.specs.Laws.{up-to-inside, entry-from, no-calendar}
+use Rattle.bytesearch.specs.Laws.{up-to-inside}
+use Rattle.entry.specs.Laws.{entry-from, no-calendar}
 use native.Mathlib.Omega.{arith}
 use Rattle.calendar.specs.Rows.{refuses, passes}
 use Rattle.entry.specs.Entry.{by-text}

@@ -4,7 +4,7 @@ use mathlib.Core.Path.{_≡_, refl, subst}
 use Prim.Native.Nat.{ℕ, _+_, _-_}
 use native.Mathlib.Omega.{arith}
 use borrow.Author.Needs.{needs}
-use Rattle.inner.specs.Natural.{MonthDayAt}
+use Rattle.monthdays.specs.Promise.{MonthDayAt}
 use Rattle.labels.proofs.spot_at.Statement.{statement}
 use Rattle.labels.proofs.spot_at.Tie as tie
 

@@ -3,7 +3,7 @@
 use Rattle.listing.specs.Blocks.{header-wrote, header-left}
 use mathlib.Core.Path.{refl}
 use Rattle.listing.specs.Lines.{header}
-use Rattle.ncal.specs.Table.{bytes}
+use Rattle.names.specs.Table.{bytes}
 use borrow.Author.Needs.{needs}
 use Rattle.listing.proofs.put_header.Statement.{statement}
 use Rattle.listing.proofs.put_header.Tie as tie

@@ -1,7 +1,7 @@
 -- `listing::turn` meets its contract: the line ends in the block, or the block in the line.
 -- Assumes nothing.
 use Rattle.listing.specs.Blocks.{turn-rest, turn-line}
-use Rattle.entry.specs.Laws.{up-to-inside}
+use Rattle.bytesearch.specs.Laws.{up-to-inside}
 use native.Mathlib.Omega.{arith}
 use borrow.Author.Needs.{needs}
 use Rattle.listing.proofs.turn.Statement.{statement}

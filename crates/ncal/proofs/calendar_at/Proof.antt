@@ -3,8 +3,8 @@
 use Prim.Native.Nat.{_-_}
 use native.Mathlib.Omega.{arith}
 use Rattle.ncal.specs.Laws.{calendars, calendar-among}
-use Rattle.ncal.specs.Search.{order}
-use Rattle.ncal.specs.Table.{bytes, table}
+use Rattle.names.specs.Table.{bytes, names}
+use Rattle.ncal.specs.Table.{table}
 use borrow.Author.Needs.{needs}
 use Rattle.ncal.proofs.calendar_at.Statement.{statement}
 use Rattle.ncal.proofs.calendar_at.Tie as tie
@@ -16,7 +16,7 @@ array-copy-out-result : tie.Need-array-copy-out-result
 array-copy-out-result c = search needs
 
 returns : tie.Need-returns
-unfolding calendars order table bytes
+unfolding calendars names table bytes
 returns c = calendar-among 0 4 (c .before .before .args .k) (c .before .before .args .k) (omega arith) (omega arith)
 
 mul-result-2 : tie.Need-mul-result-2
@@ -26,7 +26,7 @@ array-copy-out-result-2 : tie.Need-array-copy-out-result-2
 array-copy-out-result-2 c = search needs
 
 returns-2 : tie.Need-returns-2
-unfolding calendars order table bytes
+unfolding calendars names table bytes
 returns-2 c = calendar-among 4 5 (c .before .before .before .args .k - 4) (c .before .before .before .args .k) (omega arith) (omega arith)
 
 mul-result-3 : tie.Need-mul-result-3
@@ -36,7 +36,7 @@ array-copy-out-result-3 : tie.Need-array-copy-out-result-3
 array-copy-out-result-3 c = search needs
 
 returns-3 : tie.Need-returns-3
-unfolding calendars order table bytes
+unfolding calendars names table bytes
 returns-3 c = calendar-among 9 5 (c .before .before .before .before .args .k - 9) (c .before .before .before .before .args .k) (omega arith) (omega arith)
 
 mul-result-4 : tie.Need-mul-result-4
@@ -46,7 +46,7 @@ array-copy-out-result-4 : tie.Need-array-copy-out-result-4
 array-copy-out-result-4 c = search needs
 
 returns-4 : tie.Need-returns-4
-unfolding calendars order table bytes
+unfolding calendars names table bytes
 returns-4 c = calendar-among 14 5 (c .before .before .before .before .before .args .k - 14) (c .before .before .before .before .before .args .k) (omega arith) (omega arith)
 
 mul-result-5 : tie.Need-mul-result-5
@@ -56,7 +56,7 @@ array-copy-out-result-5 : tie.Need-array-copy-out-result-5
 array-copy-out-result-5 c = search needs
 
 returns-5 : tie.Need-returns-5
-unfolding calendars order table bytes
+unfolding calendars names table bytes
 returns-5 c = calendar-among 19 4 (c .before .before .before .before .before .before .args .k - 19) (c .before .before .before .before .before .before .args .k) (omega arith) (omega arith)
 
 mul-result-6 : tie.Need-mul-result-6
@@ -66,7 +66,7 @@ array-copy-out-result-6 : tie.Need-array-copy-out-result-6
 array-copy-out-result-6 c = search needs
 
 returns-6 : tie.Need-returns-6
-unfolding calendars order table bytes
+unfolding calendars names table bytes
 returns-6 c = calendar-among 23 3 (c .before .before .before .before .before .before .before .args .k - 23) (c .before .before .before .before .before .before .before .args .k) (omega arith) (omega arith)
 
 mul-result-7 : tie.Need-mul-result-7
@@ -76,7 +76,7 @@ array-copy-out-result-7 : tie.Need-array-copy-out-result-7
 array-copy-out-result-7 c = search needs
 
 returns-7 : tie.Need-returns-7
-unfolding calendars order table bytes
+unfolding calendars names table bytes
 returns-7 c = calendar-among 26 3 (c .before .before .before .before .before .before .before .before .args .k - 26) (c .before .before .before .before .before .before .before .before .args .k) (omega arith) (omega arith)
 
 mul-result-8 : tie.Need-mul-result-8
@@ -86,7 +86,7 @@ array-copy-out-result-8 : tie.Need-array-copy-out-result-8
 array-copy-out-result-8 c = search needs
 
 returns-8 : tie.Need-returns-8
-unfolding calendars order table bytes
+unfolding calendars names table bytes
 returns-8 c = calendar-among 29 4 (c .before .before .before .before .before .before .before .before .before .args .k - 29) (c .before .before .before .before .before .before .before .before .before .args .k) (omega arith) (omega arith)
 
 mul-result-9 : tie.Need-mul-result-9
@@ -96,7 +96,7 @@ array-copy-out-result-9 : tie.Need-array-copy-out-result-9
 array-copy-out-result-9 c = search needs
 
 returns-9 : tie.Need-returns-9
-unfolding calendars order table bytes
+unfolding calendars names table bytes
 returns-9 c = calendar-among 33 3 (c .before .before .before .before .before .before .before .before .before .args .k - 33) (c .before .before .before .before .before .before .before .before .before .args .k) (omega arith) (omega arith)
 
 pub calendar-at-spec : {M : Type 1} → statement M

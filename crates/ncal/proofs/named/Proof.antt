@@ -2,8 +2,8 @@
 -- Assumes nothing.
 use borrow.Author.Needs.{needs}
 use Rattle.ncal.specs.Laws.{is-named, not-named}
-use Rattle.ncal.specs.Search.{Found}
-use Rattle.ncal.specs.declared.Place.the-variants.{At}
+use Rattle.names.specs.Promise.{Found}
+use Rattle.names.specs.declared.Place.the-variants.{At}
 use Rattle.ncal.proofs.named.Statement.{statement}
 use Rattle.ncal.proofs.named.Tie as tie
 

@@ -4,8 +4,8 @@ use Prim.Native.Nat.{_-_}
 use native.Mathlib.Omega.{arith}
 use borrow.Author.Needs.{needs}
 use Rattle.inner.specs.Natural.{heldYear}
-use Rattle.inner.specs.Promise.{OrdinalOf}
-use Rattle.inner.specs.declared.DayOrdinal.the-variants as DayOrdinal′
+use Rattle.monthdays.specs.Promise.{OrdinalOf}
+use Rattle.monthdays.specs.declared.DayOrdinal.the-variants as DayOrdinal′
 use Rattle.changeover.specs.Laws.{ordinal-some, month-has-first}
 use Rattle.calendar.specs.Laws.{julian-month-is}
 use Rattle.calendar.proofs.record.julian_month.Statement.{statement}

@@ -1,0 +1,178 @@
+-- From the arithmetic of the months to what is promised.
+-- Assumes nothing.
+use mathlib.Core.Path.{_≡_, refl, sym, _∙_, ap, subst}
+use mathlib.Core.Bool.{Bool, true, false, cond}
+use mathlib.Core.Logic.{⊎-elim}
+use Prim.Native.Nat.{ℕ, zero, suc, _+_, _-_, _*_, _/_, _<_, _≤_, _^_}
+use native.Mathlib.Omega.{arith}
+use borrow.Author.Tests.{lt-ltb, le-ltb, ltb-true}
+use lib.Dec.{ltb}
+use lib.IntN.{ℤ, pos, sucℤ}
+use lib.Signed.{_≤ℤ_, clashℤ}
+use Rattle.whole.specs.Tests.{lt-or-ge}
+use Rattle.whole.specs.Integers.{lt-suc, eq-le}
+use Rattle.days.specs.DayByDay.{Label, label, LeapRule, monthLength}
+use Rattle.days.specs.Steps as Steps
+use Rattle.days.specs.Steps.{Valid, after, after-stepping, after-sum, after-valid}
+use Rattle.days.specs.Order.{≺-year}
+use Rattle.days.specs.Year.{yearLength, InYear as MonthAndDay, inYear, dayOfYear, year-most, year-walk, year-over}
+use Rattle.days.specs.Months.{no-month, ordinal-is, ordinal-within}
+use Rattle.days.specs.Numbers.{daysBefore, before, toThirty, monthAt, month-at}
+use Rattle.days.specs.Calendars.{after-later}
+use Rattle.monthdays.specs.declared.MonthDay.the-variants as MonthDay′
+use Rattle.monthdays.specs.declared.DayOrdinal.the-variants as DayOrdinal′
+use Rattle.monthdays.specs.Promise.{InYear, MonthDayOf, month-day, OrdinalOf, ordinal, Month, MonthDayAt}
+
+first-valid : (rule : LeapRule) (y : ℤ) → Valid rule (label y 1 1)
+first-valid rule y = record { month-from = omega arith; month-to = omega arith; day-from = omega arith; day-to = Steps.month-some (rule y) 1 (omega arith) (omega arith) }
+
+module _ (leap : Bool) where
+  pub in-year-at : (o : ℕ) → 1 ≤ o → o ≤ yearLength leap → InYear leap o (inYear leap o .month) (inYear leap o .day)
+  in-year-at o f t = record {
+    from = f;
+    comes = λ rule y e. sym (after-stepping rule (o - 1) (label y 1 1)) ∙ year-walk rule y leap e (o - 1) (omega arith) ∙ ap (dayOfYear leap y) again;
+  }
+    where
+      again : suc (o - 1) ≡ o
+      again = omega arith
+
+  -- the day d of the month m
+  pub in-year-month : (m d : ℕ) → Month m → 1 ≤ d → d ≤ monthLength leap m → InYear leap (daysBefore leap m + d) m d
+  in-year-month m d (u, v) f t =
+      let e : inYear leap (daysBefore leap m + d) ≡ record { month = m; day = d } = ordinal-is leap m (daysBefore leap m) d u v f t (before leap m u v) in
+      let p : InYear leap (daysBefore leap m + d) (inYear leap (daysBefore leap m + d) .month) (inYear leap (daysBefore leap m + d) .day) =
+      in-year-at (daysBefore leap m + d) (omega arith) (ordinal-within leap m (daysBefore leap m) d u v t (before leap m u v)) in
+      subst (λ (i : MonthAndDay). InYear leap (daysBefore leap m + d) (i .month) (i .day)) e p
+
+  -- a label that comes so is of a month, and a day of it, and comes within the year
+  pub in-year-valid : {o m d : ℕ} → InYear leap o m d → Month m × (1 ≤ d) × (d ≤ monthLength leap m)
+  in-year-valid {o} {m} {d} p =
+      let v : Valid (λ _. leap) (label (pos 0) m d) = subst (Valid (λ _. leap)) (after-stepping (λ _. leap) (o - 1) (label (pos 0) 1 1) ∙ p .comes (λ _. leap) (pos 0) refl)
+      (after-valid (λ _. leap) (o - 1) (label (pos 0) 1 1) (first-valid (λ _. leap) (pos 0))) in
+      ((v .month-from, v .month-to), v .day-from, v .day-to)
+
+  pub in-year-to : {o m d : ℕ} → InYear leap o m d → o ≤ yearLength leap
+  unfolding after
+  in-year-to {o} {m} {d} p = ⊎-elim (λ h. absurd (never h)) (λ h. h) (lt-or-ge (yearLength leap) o)
+    where
+      next : Label
+      next = label (sucℤ (pos 0)) 1 1
+
+      come : (i : ℕ) → yearLength leap + i ≡ o - 1 → after (λ _. leap) i next ≡ label (pos 0) m d
+      come i e = ap (after (λ _. leap) i) (sym (year-over (λ _. leap) (pos 0) leap refl)) ∙ sym (after-sum (λ _. leap) (yearLength leap) i (label (pos 0) 1 1))
+          ∙ ap (λ (k : ℕ). after (λ _. leap) k (label (pos 0) 1 1)) e ∙ after-stepping (λ _. leap) (o - 1) (label (pos 0) 1 1) ∙ p .comes (λ _. leap) (pos 0) refl
+
+      later : (i : ℕ) → pos 1 ≤ℤ (after (λ _. leap) i next .year)
+      later zero = eq-le refl
+      later (suc i) = ≺-year (after-later (λ _. leap) i next)
+
+      never : yearLength leap < o → ⊥
+      never h =
+          let e : yearLength leap + (o - 1 - yearLength leap) ≡ o - 1 = omega arith in
+          clashℤ (lt-suc (pos 0)) (subst (λ (l : Label). pos 1 ≤ℤ (l .year)) (come (o - 1 - yearLength leap) e) (later (o - 1 - yearLength leap)))
+
+-- ---- The month by arithmetic
+
+-- the place o as it would be if February had 30 days, and its month m by division
+module _ (leap : Bool) (o t m : ℕ) (f : 1 ≤ o) (e : t ≡ toThirty leap o) (g : m ≡ (12 * (o + t) + 361) / 367) where
+  thirty-few : t ≤ 2
+  thirty-few = rw e (few leap (ltb (cond leap 60 59) o))
+    where
+      few : (b c : Bool) → cond c (cond b 1 2) 0 ≤ 2
+      few true true = omega arith
+      few true false = omega arith
+      few false true = omega arith
+      few false false = omega arith
+
+  pub month-some : 1 ≤ m
+  month-some = omega arith
+
+  pub month-room : o < 2 ^ 33 → m < 2 ^ 32
+  month-room h = omega (arith, thirty-few)
+
+  pub day-some : (367 * m - 362) / 12 < o + t
+  day-some = omega arith
+
+  pub day-few : o + t - (367 * m - 362) / 12 ≤ 31
+  day-few = omega arith
+
+  -- past February exactly where the place is
+  same-side : toThirty leap o ≡ cond (ltb 2 m) (cond leap 1 2) 0
+  same-side = ⊎-elim
+      (λ h. late h)
+      (λ h. early h)
+      (lt-or-ge (cond leap 60 59) o)
+    where
+      past : (b : Bool) → cond b 60 59 < o → toThirty b o ≡ cond b 1 2
+      past b h = simp (lt-ltb (cond b 60 59) o h)
+
+      not-past : (b : Bool) → o ≤ cond b 60 59 → toThirty b o ≡ 0
+      not-past b h = simp (le-ltb (cond b 60 59) o h)
+
+      after : (b : Bool) → cond b 60 59 < o → t ≡ cond b 1 2 → 2 < m
+      after true h q = omega arith
+      after false h q = omega arith
+
+      before-march : (b : Bool) → o ≤ cond b 60 59 → t ≡ 0 → m ≤ 2
+      before-march true h q = omega arith
+      before-march false h q = omega arith
+
+      late : cond leap 60 59 < o → toThirty leap o ≡ cond (ltb 2 m) (cond leap 1 2) 0
+      late h = past leap h ∙ sym (ap (λ (b : Bool). cond b (cond leap 1 2) 0) (lt-ltb 2 m (after leap h (e ∙ past leap h))))
+
+      early : o ≤ cond leap 60 59 → toThirty leap o ≡ cond (ltb 2 m) (cond leap 1 2) 0
+      early h = not-past leap h ∙ sym (ap (λ (b : Bool). cond b (cond leap 1 2) 0) (le-ltb 2 m (before-march leap h (e ∙ not-past leap h))))
+
+  pub month-day-at : MonthDayAt leap o m (o + t - (367 * m - 362) / 12)
+  month-day-at = record {
+    month-is = g ∙ ap (λ (t : ℕ). (12 * (o + t) + 361) / 367) e;
+    day-is = sum (cond (ltb 2 m) (cond leap 1 2) 0) ((367 * m - 362) / 12) (e ∙ same-side) day-some (room leap (ltb 2 m) refl);
+  }
+    where
+      sum : (s q : ℕ) → t ≡ s → q < o + t → s ≤ q → q - s + (o + t - q) ≡ o
+      sum s q a b c = omega arith
+
+      room : (b c : Bool) → ltb 2 m ≡ c → cond c (cond b 1 2) 0 ≤ (367 * m - 362) / 12
+      room true true q = omega (arith, ltb-true 2 m q)
+      room false true q = omega (arith, ltb-true 2 m q)
+      room true false q = omega arith
+      room false false q = omega arith
+
+-- within a year it is the month, and the day of the month
+pub month-day-in : {leap : Bool} {o m d : ℕ} → 1 ≤ o → o ≤ yearLength leap → MonthDayAt leap o m d → Month m × (1 ≤ d) × (d ≤ monthLength leap m)
+month-day-in {leap} {o} {m} {d} f t p =
+    let (a, b, c, e) = month-at leap o f t in
+    let q : (1 ≤ m) × (m ≤ 12) × (daysBefore leap m < o) × (o ≤ daysBefore leap m + monthLength leap m) = rw (p .month-is) (a, b, c, e) in
+    ((q .0, q .1), omega (arith, p .day-is, q .2), omega (arith, p .day-is, q .3))
+
+-- a month that has a day is a month
+pub month-of-length : (leap : Bool) {m d : ℕ} → 1 ≤ d → d ≤ monthLength leap m → Month m
+month-of-length leap {m} {d} f t = (
+  ⊎-elim (λ h. absurd (none (λ p. before-first h (p .0)))) (λ h. h) (lt-or-ge m 1),
+  ⊎-elim (λ h. absurd (none (λ p. past-last h (p .1)))) (λ h. h) (lt-or-ge 12 m),
+)
+  where
+    none : (Month m → ⊥) → ⊥
+    none n = omega (arith, no-month leap m n)
+
+    before-first : m < 1 → 1 ≤ m → ⊥
+    before-first h k = omega arith
+
+    past-last : 12 < m → m ≤ 12 → ⊥
+    past-last h k = omega arith
+
+-- the answers
+pub month-answer : {leap : Bool} {o m d : ℕ} → 1 ≤ o → o ≤ yearLength leap → MonthDayAt leap o m d → MonthDayOf leap o (MonthDay′.At m d)
+month-answer {leap} {o} {m} {d} f t p =
+    let (v, u, w) = month-day-in f t p in
+    month-day (subst (λ (o : ℕ). InYear leap o m d) (p .day-is) (in-year-month leap m d v u w))
+
+module _ (leap : Bool) (m d : ℕ) {l : ℕ} (e : l ≡ monthLength leap m) (f : 1 ≤ d) (t : d ≤ l) where
+  pub month-there : Month m
+  month-there = month-of-length leap f (omega arith)
+
+  pub ordinal-found : {b : ℕ} → b ≡ daysBefore leap m → OrdinalOf leap m d (DayOrdinal′.At (b + d))
+  ordinal-found g = rw g (ordinal (in-year-month leap m d month-there f (omega arith)))
+
+  pub ordinal-few : {b : ℕ} → b ≡ daysBefore leap m → b + d ≤ 366
+  ordinal-few g = let n : Month m = month-there in omega (arith, ordinal-within leap m (daysBefore leap m) d (n .0) (n .1) (omega arith) (before leap m (n .0) (n .1)), year-most leap)

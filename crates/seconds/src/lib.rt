@@ -1,0 +1,40 @@
+// The day and the seconds into it of a number of seconds since 1970, and back. The seconds are counted as naturals from the start of the
+// lowest day, so that a quotient is a floor on both sides of 1970.
+
+ghost use Rattle.days.specs.DayByDay.{UnixTime};
+ghost use Rattle.seconds.specs.Promise.{DaySecondOf};
+use whole::lowered;
+use whole::lowered64;
+use whole::raised;
+use whole::raised64;
+
+// The number of a day, and the seconds into that day; or that 32 bits do not hold the number.
+pub enum DaySecond {
+    At(i32, u32),
+    Outside32,
+}
+
+// The lowest day starts 185753453990400 seconds before 1970, and the days of 32 bits have 371085174374400 seconds.
+pub fn day_second(t: i64) -> DaySecond
+    ensures { λ a. ⌜ DaySecondOf t a ⌝ }
+{
+    let raised_time = raised64(t);
+    if raised_time < 9_223_186_283_400_785_408 {
+        return DaySecond::Outside32;
+    }
+    let elapsed = raised_time - 9_223_186_283_400_785_408;
+    if 371_085_174_374_399 < elapsed {
+        return DaySecond::Outside32;
+    }
+    let day = (elapsed / 86_400) as u32;
+    let seconds = (elapsed % 86_400) as u32;
+    DaySecond::At(lowered(day), seconds)
+}
+
+// The second at which a day begins.
+pub fn jdn2unix(jdn: i32) -> i64
+    ensures { λ t. ⌜ UnixTime t jdn 0 ⌝ }
+{
+    let elapsed = raised(jdn) as u64 * 86_400;
+    lowered64(elapsed + 9_223_186_283_400_785_408)
+}
