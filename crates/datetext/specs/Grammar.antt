@@ -7,7 +7,9 @@ use mathlib.Core.List.{List, _∷_, _++_}
 use lib.ListN.{length}
 use lib.IntN.{ℤ, pos}
 use Rattle.refusals.specs.declared.Refusal.{Refusal}
-use Rattle.numbertext.specs.Numerals.{dash, refusal, Unsigned, Signed, Stops, NoNumber, NoSigned, NoDash}
+use Rattle.refusals.specs.Refusals.{refusal}
+use Rattle.digits.specs.Numerals.{dash, Stops}
+use Rattle.numbertext.specs.Numerals.{Unsigned, Signed, NoNumber, NoSigned, NoDash}
 use Rattle.datetext.specs.declared.Text.{Text}
 
 pub record Month (m : ℕ) : Type 0 where

@@ -11,10 +11,12 @@ use lib.IntN.{ℤ, pos}
 use lib.Dec.{leb}
 use borrow.Author.Tests.{lt-ltb, leb-true}
 use Rattle.whole.specs.Biased.{unbias, unbias-above}
-use Rattle.numbertext.specs.Numerals.{dash}
-use Rattle.numbertext.specs.Reading.{theNumber, theSigned, pairOf}
-use Rattle.numbertext.specs.Digits.{pick-yes, both, front-end, dash-yes, end-reached}
-use Rattle.numbertext.specs.Few.{DigitIs, PairIs, pair-seen, digit-front, pair-front, dash-front, number-of, signed-of}
+use Rattle.digits.specs.Numerals.{dash}
+use Rattle.digits.specs.Reading.{pairOf}
+use Rattle.digits.specs.Runs.{pick-yes, both, front-end}
+use Rattle.digits.specs.Few.{DigitIs, PairIs, pair-seen, digit-front, pair-front, dash-front}
+use Rattle.numbertext.specs.Reading.{theNumber, theSigned}
+use Rattle.numbertext.specs.Places.{dash-yes, end-reached, number-of, signed-of}
 use Rattle.numbertext.specs.declared.Number.{Number}
 use Rattle.numbertext.specs.declared.SignedNumber.{SignedNumber}
 use Rattle.datetext.specs.Reading.{isMonth, toYmd, afterDay, afterMonth, afterSecond, afterDash, afterYear, readText}

@@ -126,7 +126,7 @@ fn year_at(text: &[u8], hundreds: u32, at: usize) -> Part
     if 99 < hundreds {
         return Part::Other;
     }
-    let rest = numbertext::pair_at(text, at);
+    let rest = digits::pair_at(text, at);
     if 99 < rest {
         return Part::Other;
     }
@@ -140,11 +140,11 @@ fn usual_year(text: &[u8]) -> Part
         return Part::Other;
     }
     if text[4] == 45 {
-        let hundreds = numbertext::pair_at(text, 0);
+        let hundreds = digits::pair_at(text, 0);
         return year_at(text, hundreds, 2);
     }
     if text[3] == 45 {
-        let hundreds = numbertext::digit_at(text, 0);
+        let hundreds = digits::digit_at(text, 0);
         if hundreds < 10 {
             return year_at(text, hundreds, 1);
         }
@@ -161,14 +161,14 @@ fn usual_month(text: &[u8], at: usize) -> Part
         return Part::Other;
     }
     if text[at + 2] == 45 {
-        let month = numbertext::pair_at(text, at);
+        let month = digits::pair_at(text, at);
         if is_month(month) {
             return Part::At(month, at + 3);
         }
         return Part::Other;
     }
     if text[at + 1] == 45 {
-        let month = numbertext::digit_at(text, at);
+        let month = digits::digit_at(text, at);
         if 9 < month {
             return Part::Other;
         }
@@ -186,10 +186,10 @@ fn usual_day(text: &[u8], at: usize) -> u32
 {
     let left = text.len() - at;
     if left == 2 {
-        return numbertext::pair_at(text, at);
+        return digits::pair_at(text, at);
     }
     if left == 1 {
-        let day = numbertext::digit_at(text, at);
+        let day = digits::digit_at(text, at);
         if day < 10 {
             return day;
         }

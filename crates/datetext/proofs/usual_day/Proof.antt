@@ -1,7 +1,7 @@
 -- `datetext::usual_day` meets its contract: what is left of the text are the digits of the day.
 -- Assumes nothing.
 use native.Mathlib.Omega.{arith}
-use Rattle.numbertext.specs.Few.{digit-seen, pair-seen}
+use Rattle.digits.specs.Few.{digit-seen, pair-seen}
 use Rattle.datetext.specs.Usual.{two-digit-day, one-digit-day}
 use borrow.Author.Needs.{needs}
 use Rattle.datetext.proofs.usual_day.Statement.{statement}

@@ -2,7 +2,7 @@
 -- Assumes nothing.
 use mathlib.Core.Path.{sym, _∙_}
 use native.Mathlib.Omega.{arith}
-use Rattle.numbertext.specs.Few.{digit-seen}
+use Rattle.digits.specs.Few.{digit-seen}
 use Rattle.datetext.specs.Usual.{IfAt, two-digit-month, one-digit-month}
 use borrow.Author.Needs.{needs}
 use Rattle.datetext.proofs.usual_month.Statement.{statement}

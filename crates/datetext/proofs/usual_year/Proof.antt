@@ -1,7 +1,7 @@
 -- `datetext::usual_year` meets its contract: the digits before the dash are those of the year.
 -- Assumes nothing.
 use native.Mathlib.Omega.{arith}
-use Rattle.numbertext.specs.Few.{digit-seen}
+use Rattle.digits.specs.Few.{digit-seen}
 use Rattle.datetext.specs.Usual.{IfAt, Hundreds}
 use borrow.Author.Needs.{needs}
 use Rattle.datetext.proofs.usual_year.Statement.{statement}

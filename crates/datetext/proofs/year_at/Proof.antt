@@ -1,7 +1,7 @@
 -- `datetext::year_at` meets its contract: the hundreds and two digits after them write the year.
 -- Assumes nothing.
 use native.Mathlib.Omega.{arith}
-use Rattle.numbertext.specs.Few.{pair-seen}
+use Rattle.digits.specs.Few.{pair-seen}
 use Rattle.datetext.specs.Usual.{IfAt, hundreds-place, year-is}
 use borrow.Author.Needs.{needs}
 use Rattle.datetext.proofs.year_at.Statement.{statement}

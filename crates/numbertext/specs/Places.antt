@@ -1,141 +1,31 @@
--- Laws of `Reading`: the digits at the front of a list, a reader that goes along them, and which case holds at a place.
+-- Laws of `Reading`: which case holds at a place, and what is read there once the digits are known.
 -- Assumes nothing.
-use Prim.Native.Nat.{ℕ, zero, suc, _+_, _-_, _*_, _≤_, _<_, _^_}
+use Prim.Native.Nat.{ℕ, zero, suc, _+_, _≤_, _<_}
 use mathlib.Core.Path.{_≡_, refl, sym, _∙_, ap, ap₂, subst}
 use mathlib.Core.Bool.{Bool, true, false}
 use mathlib.Core.List.{List, [], _∷_}
-use native.Mathlib.Nat.{le-refl}
-use native.Mathlib.Numerals.{add-one}
 use native.Mathlib.Omega.{arith}
 use lib.ListN.{length, getD, drop, drop-of-length-le}
-use lib.Seq.{drop-cons}
 use lib.Dec.{leb, ltb}
 use lib.IntN.{ℤ, pos}
 use mir.Syntax.{w32}
 use mir.Val.{SFits, toZ, ofZ}
-use borrow.Author.Tests.{le-leb, lt-leb, leb-true, leb-false, lt-ltb, le-ltb, eq-eqb, ne-eqb}
+use borrow.Author.Tests.{leb-true, leb-false, lt-ltb, le-ltb, eq-eqb, ne-eqb}
 use Rattle.refusals.specs.declared.Refusal.{Refusal}
+use Rattle.refusals.specs.Refusals.{refusal}
 use Rattle.whole.specs.declared.Narrowed.{Narrowed}
 use Rattle.whole.specs.declared.Narrowed.the-variants as Narrowed′
 use Rattle.whole.specs.Machine.{back}
 use Rattle.whole.specs.Edge.{signedOf, Narrows, fits, narrows-one}
-use Rattle.numbertext.specs.Numerals.{plus, dash, valueFrom, valueOf, refusal, Digit}
-use Rattle.numbertext.specs.Reading.{pick, isDigit, front, runFrom, runOf, endsOf, placed, endedAt, noNumber, toNumber, readNumber, theNumber, limitOf, toSigned, signedRun, readSigned, theSigned, readDash, theDash, readEnd, theEnd}
-use Rattle.numbertext.specs.declared.Run.{Run}
+use Rattle.digits.specs.Numerals.{plus, dash, valueOf, Digit}
+use Rattle.digits.specs.Reading.{pick, front, runFrom, runOf}
+use Rattle.digits.specs.Runs.{pick-yes, pick-no, at-cons, front-end, run-empty, run-value, run-within}
+use Rattle.digits.specs.declared.Run.{Run}
+use Rattle.numbertext.specs.Reading.{placed, endedAt, noNumber, toNumber, readNumber, theNumber, limitOf, toSigned, signedRun, readSigned, theSigned, readDash, theDash, readEnd, theEnd}
 use Rattle.numbertext.specs.declared.Number.{Number}
 use Rattle.numbertext.specs.declared.SignedNumber.{SignedNumber}
 use Rattle.numbertext.specs.declared.Dash.{Dash}
 use Rattle.numbertext.specs.declared.End.{End}
-
-pub pick-yes : {A : Type 0} {t : Bool} (a b : A) → t ≡ true → pick t a b ≡ a
-pick-yes a b e = ap (λ (x : Bool). pick x a b) e
-
-pub pick-no : {A : Type 0} {t : Bool} (a b : A) → t ≡ false → pick t a b ≡ b
-pick-no a b e = ap (λ (x : Bool). pick x a b) e
-
--- ---- the test of a digit
-
-pub both : (s t : Bool) → pick s t false ≡ true → (s ≡ true) × (t ≡ true)
-both true t e = (refl, e)
-both false t e = let z : _≡_ {A = ℕ} 0 1 = cc in absurd (omega arith)
-
-pub digit-is : (b : ℕ) → isDigit b ≡ true → Digit b
-digit-is b e = let h = both (leb 48 b) (leb b 57) e in record { low = leb-true 48 b (h .0); high = leb-true b 57 (h .1) }
-
-pub is-digit : {b : ℕ} → Digit b → isDigit b ≡ true
-is-digit {b} d = simp (le-leb 48 b (d .low), le-leb b 57 (d .high))
-
-pub digit-not : (b : ℕ) → isDigit b ≡ false → Digit b → ⊥
-digit-not b e d = let f : isDigit b ≡ true = is-digit d in let z : _≡_ {A = ℕ} 0 1 = cc in omega arith
-
-pub not-digit : (b : ℕ) → (Digit b → ⊥) → isDigit b ≡ false
-not-digit b h = go (isDigit b) refl
-  where
-    go : (t : Bool) → isDigit b ≡ t → isDigit b ≡ false
-    go true e = absurd (h (digit-is b e))
-    go false e = e
-
--- ---- the front at a place
-
-pub front-yes : (b : ℕ) (u : List ℕ) → isDigit b ≡ true → front (b ∷ u) ≡ b ∷ front u
-front-yes b u e = ap (λ (t : Bool). pick t (b ∷ front u) []) e
-
-pub front-no : (b : ℕ) (u : List ℕ) → isDigit b ≡ false → front (b ∷ u) ≡ []
-front-no b u e = ap (λ (t : Bool). pick t (b ∷ front u) []) e
-
-module _ (s : List ℕ) (i : ℕ) (within : i < length s) where
-  pub at-cons : drop i s ≡ getD s i 0 ∷ drop (i + 1) s
-  at-cons = rw add-one (drop-cons s i 0 within)
-
-  pub front-more : isDigit (getD s i 0) ≡ true → front (drop i s) ≡ getD s i 0 ∷ front (drop (i + 1) s)
-  front-more e = ap front at-cons ∙ front-yes (getD s i 0) (drop (i + 1) s) e
-
-  pub front-stop : isDigit (getD s i 0) ≡ false → front (drop i s) ≡ []
-  front-stop e = ap front at-cons ∙ front-no (getD s i 0) (drop (i + 1) s) e
-
-pub front-end : (s : List ℕ) (i : ℕ) → length s ≤ i → front (drop i s) ≡ []
-front-end s i h = ap front (drop-of-length-le s h)
-
--- ---- a run
-
-pub value-grows : (n : ℕ) (s : List ℕ) → n ≤ valueFrom n s
-value-grows n [] = le-refl n
-value-grows n (b ∷ s) = omega (arith, value-grows (n * 10 + (b - 48)) s)
-
--- which answer a run of the digits p has
-module _ (limit at : ℕ) where
-  pub run-empty : runFrom limit at [] ≡ Run.Empty
-  unfolding runFrom
-  run-empty = refl
-
-  pub run-value : (p : List ℕ) → 0 < length p → valueOf p ≤ limit → runFrom limit at p ≡ Run.Value (valueOf p) (at + length p)
-  unfolding runFrom
-  run-value [] h k = absurd (omega arith)
-  run-value (b ∷ p) h k = pick-yes _ _ (le-leb _ _ k)
-
-  pub run-over : (p : List ℕ) → limit < valueOf p → runFrom limit at p ≡ Run.Over
-  unfolding runFrom
-  run-over [] k = absurd (omega arith)
-  run-over (b ∷ p) k = pick-no _ _ (lt-leb _ _ k)
-
-  -- a value that is told is in the range
-  pub run-within : (p : List ℕ) {n next : ℕ} → runFrom limit at p ≡ Run.Value n next → n ≤ limit
-  unfolding runFrom
-  run-within [] e = let z : _≡_ {A = ℕ} 0 1 = cc in absurd (omega arith)
-  run-within (b ∷ p) {n} {next} e = go (leb (valueOf (b ∷ p)) limit) refl e
-    where
-      go : (t : Bool) → leb (valueOf (b ∷ p)) limit ≡ t → pick t (Run.Value (valueOf (b ∷ p)) (at + length (b ∷ p))) Run.Over ≡ Run.Value n next → n ≤ limit
-      go true k e = let q : valueOf (b ∷ p) ≡ n = cc in omega (arith, leb-true (valueOf (b ∷ p)) limit k)
-      go false k e = let z : _≡_ {A = ℕ} 0 1 = cc in absurd (omega arith)
-
-  pub run-ends : (p : List ℕ) (n i : ℕ) → n ≡ valueOf p → i ≡ at + length p → n ≤ limit → endsOf n at i ≡ runFrom limit at p
-  run-ends [] n i e h k = pick-yes _ _ (eq-eqb i at (omega arith)) ∙ sym run-empty
-  run-ends (b ∷ p) n i e h k =
-      pick-no _ _ (ne-eqb i at (λ q. omega arith)) ∙ ap₂ Run.Value e h ∙ sym (run-value (b ∷ p) (omega arith) (subst (λ (x : ℕ). x ≤ limit) e k))
-
--- at i, on the way from `at`: what is still to come takes n and i to the number and the place of the whole run
-pub record Along (s : List ℕ) (at limit n i : ℕ) : Type 0 where
-  pub small : n ≤ limit
-  pub value : valueFrom n (front (drop i s)) ≡ valueOf (front (drop at s))
-  pub next : i + length (front (drop i s)) ≡ at + length (front (drop at s))
-
-pub along-start : (s : List ℕ) (at limit : ℕ) → Along s at limit 0 at
-along-start s at limit = record { small = omega arith; value = refl; next = refl }
-
-module _ {s : List ℕ} {at limit n i : ℕ} (a : Along s at limit n i) where
-  module _ (h : i < length s) (d : isDigit (getD s i 0) ≡ true) where
-    more-value : valueFrom (n * 10 + (getD s i 0 - 48)) (front (drop (i + 1) s)) ≡ valueOf (front (drop at s))
-    more-value = sym (ap (valueFrom n) (front-more s i h d)) ∙ a .value
-
-    pub along-step : n * 10 + (getD s i 0 - 48) ≤ limit → Along s at limit (n * 10 + (getD s i 0 - 48)) (i + 1)
-    along-step k = record { small = k; value = more-value; next = omega (arith, ap length (front-more s i h d), a .next) }
-
-    pub along-over : limit < n * 10 + (getD s i 0 - 48) → Run.Over ≡ runOf limit at (drop at s)
-    along-over k =
-        sym (run-over limit at (front (drop at s)) (omega (arith, more-value, value-grows (n * 10 + (getD s i 0 - 48)) (front (drop (i + 1) s)))))
-
-  pub along-done : front (drop i s) ≡ [] → endsOf n at i ≡ runOf limit at (drop at s)
-  along-done f = run-ends limit at (front (drop at s)) n i (sym (ap (valueFrom n) f) ∙ a .value) (omega (arith, ap length f, a .next)) (a .small)
 
 -- ---- where a place stands
 
@@ -194,10 +84,6 @@ unfolding readNumber
 number-end s at h = placed-end Number.Refused readNumber s at 8 (ap (toNumber at []) (run-empty 4294967295 at)) h
 
 -- ---- a signed number
-
-pub limit-low : (neg : Bool) → limitOf neg < 2 ^ 60
-limit-low true = omega arith
-limit-low false = omega arith
 
 -- a magnitude in the range fits signed 32 bits
 signed-fits : (neg : Bool) (n : ℕ) → n ≤ limitOf neg → SFits w32 (signedOf neg n)
@@ -281,3 +167,18 @@ module _ (s : List ℕ) (at : ℕ) where
   pub end-reached : at ≤ length s → length s ≤ at → theEnd s at ≡ End.Reached
   unfolding readEnd
   end-reached h k = placed-in End.Refused readEnd s at h ∙ ap (readEnd at) (drop-of-length-le s k)
+
+-- ---- the number n that the digits p write, and the place after them
+
+pub number-of : (s : List ℕ) (at : ℕ) (p : List ℕ) {n next : ℕ} → front (drop at s) ≡ p → 0 < length p → n ≡ valueOf p → next ≡ at + length p → n ≤ 4294967295
+    → theNumber s at ≡ Number.Value n next
+number-of s at p f h e k l =
+    number-value s at refl (ap (runFrom 4294967295 at) f ∙ run-value 4294967295 at p h (subst (λ (x : ℕ). x ≤ 4294967295) e l)) ∙ ap₂ Number.Value (sym e) (sym k)
+
+pub signed-of : (s : List ℕ) (p : List ℕ) {n next : ℕ} → 0 < length s → Digit (getD s 0 0) → front (drop 0 s) ≡ p → 0 < length p → n ≡ valueOf p → next ≡ length p
+    → n ≤ 2147483647 → theSigned s 0 ≡ SignedNumber.Value (pos n) next
+unfolding signedOf
+signed-of s p h d f g e k l =
+    signed-plain s 0 h (λ e. omega (arith, d .low)) (λ e. omega (arith, d .low))
+    ∙ signed-as false 0 0 _ (drop 0 s) refl refl (ap (runFrom 2147483647 0) f ∙ run-value 2147483647 0 p g (subst (λ (x : ℕ). x ≤ 2147483647) e l))
+    ∙ ap₂ (λ (x i : ℕ). SignedNumber.Value (pos x) i) (sym e) (omega arith)

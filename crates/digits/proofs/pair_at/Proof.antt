@@ -1,10 +1,10 @@
--- `numbertext::pair_at` meets its contract: both digits are those at their places.
+-- `digits::pair_at` meets its contract: both digits are those at their places.
 -- Assumes nothing.
 use native.Mathlib.Omega.{arith}
-use Rattle.numbertext.specs.Few.{digit-seen, pair-first, pair-second, pair-yes}
+use Rattle.digits.specs.Few.{digit-seen, pair-first, pair-second, pair-yes}
 use borrow.Author.Needs.{needs}
-use Rattle.numbertext.proofs.pair_at.Statement.{statement}
-use Rattle.numbertext.proofs.pair_at.Tie as tie
+use Rattle.digits.proofs.pair_at.Statement.{statement}
+use Rattle.digits.proofs.pair_at.Tie as tie
 
 digit-at-requires : tie.Need-digit-at-requires
 digit-at-requires c κs = search needs

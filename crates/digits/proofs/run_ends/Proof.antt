@@ -1,10 +1,10 @@
--- `numbertext::run_ends` meets its contract: the test is that of `endsOf`.
+-- `digits::run_ends` meets its contract: the test is that of `endsOf`.
 -- Assumes nothing.
 use mathlib.Core.Path.{sym}
 use borrow.Author.Tests.{eq-eqb, ne-eqb}
-use Rattle.numbertext.specs.Digits.{pick-yes, pick-no}
-use Rattle.numbertext.proofs.run_ends.Statement.{statement}
-use Rattle.numbertext.proofs.run_ends.Tie as tie
+use Rattle.digits.specs.Runs.{pick-yes, pick-no}
+use Rattle.digits.proofs.run_ends.Statement.{statement}
+use Rattle.digits.proofs.run_ends.Tie as tie
 
 returns : tie.Need-returns
 returns c = sym (pick-yes _ _ (eq-eqb _ _ (c .if1 .taken)))

@@ -1,4 +1,4 @@
--- `numbertext::run_at` meets its contract. The loop's invariant is `Along`: what is still to come takes the number and the place to those of the
+-- `digits::run_at` meets its contract. The loop's invariant is `Along`: what is still to come takes the number and the place to those of the
 -- whole run. The measure is what is left of the slice.
 -- Assumes nothing.
 use mathlib.Core.Path.{sym, _∙_}
@@ -6,16 +6,16 @@ use Prim.Native.Nat.{_-_}
 use native.Mathlib.Omega.{arith}
 use borrow.Author.Needs.{needs}
 use lib.ListN.{length, getD}
-use Rattle.numbertext.specs.Numerals.{Digit}
-use Rattle.numbertext.specs.Digits.{Along, along-start, along-step, along-over, along-done, front-stop, front-end, digit-is}
-use Rattle.numbertext.proofs.run_at.Statement.{statement}
-use Rattle.numbertext.proofs.run_at.Tie as tie
+use Rattle.digits.specs.Numerals.{Digit}
+use Rattle.digits.specs.Runs.{Along, along-start, along-step, along-over, along-done, front-stop, front-end, digit-is}
+use Rattle.digits.proofs.run_at.Statement.{statement}
+use Rattle.digits.proofs.run_at.Tie as tie
 
 abbrev Inv-loop : tie.InvT-loop
-Inv-loop s at limit n₀ i₀ n i = Along s at limit n i
+Inv-loop s at limit most n₀ i₀ n i = Along s at limit n i
 
 abbrev μ-loop : tie.MeasureT-loop
-μ-loop s at limit n₀ i₀ n i = length s - i
+μ-loop s at limit most n₀ i₀ n i = length s - i
 
 loop-holds : tie.Need-loop-holds Inv-loop μ-loop
 loop-holds c = along-start _ _ _

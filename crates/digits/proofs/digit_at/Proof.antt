@@ -1,10 +1,10 @@
--- `numbertext::digit_at` meets its contract: the difference wraps as `digitValue` does.
+-- `digits::digit_at` meets its contract: the difference wraps as `digitValue` does.
 -- Assumes nothing.
 use native.Mathlib.Omega.{arith}
-use Rattle.numbertext.specs.Few.{digit-past, digit-here}
+use Rattle.digits.specs.Few.{digit-past, digit-here}
 use borrow.Author.Needs.{needs}
-use Rattle.numbertext.proofs.digit_at.Statement.{statement}
-use Rattle.numbertext.proofs.digit_at.Tie as tie
+use Rattle.digits.proofs.digit_at.Statement.{statement}
+use Rattle.digits.proofs.digit_at.Tie as tie
 
 returns : tie.Need-returns
 returns c = digit-past _ _ (c .if1 .taken)
