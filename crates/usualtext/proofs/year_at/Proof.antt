@@ -1,11 +1,11 @@
--- `datetext::year_at` meets its contract: the hundreds and two digits after them write the year.
+-- `usualtext::year_at` meets its contract: the hundreds and two digits after them write the year.
 -- Assumes nothing.
 use native.Mathlib.Omega.{arith}
 use Rattle.digits.specs.Few.{pair-seen}
-use Rattle.datetext.specs.Usual.{IfAt, hundreds-place, year-is}
+use Rattle.usualtext.specs.Usual.{IfAt, hundreds-place, year-is}
 use borrow.Author.Needs.{needs}
-use Rattle.datetext.proofs.year_at.Statement.{statement}
-use Rattle.datetext.proofs.year_at.Tie as tie
+use Rattle.usualtext.proofs.year_at.Statement.{statement}
+use Rattle.usualtext.proofs.year_at.Tie as tie
 
 returns : tie.Need-returns
 returns c = IfAt.other

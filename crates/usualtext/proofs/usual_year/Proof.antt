@@ -1,11 +1,11 @@
--- `datetext::usual_year` meets its contract: the digits before the dash are those of the year.
+-- `usualtext::usual_year` meets its contract: the digits before the dash are those of the year.
 -- Assumes nothing.
 use native.Mathlib.Omega.{arith}
 use Rattle.digits.specs.Few.{digit-seen}
-use Rattle.datetext.specs.Usual.{IfAt, Hundreds}
+use Rattle.usualtext.specs.Usual.{IfAt, Hundreds}
 use borrow.Author.Needs.{needs}
-use Rattle.datetext.proofs.usual_year.Statement.{statement}
-use Rattle.datetext.proofs.usual_year.Tie as tie
+use Rattle.usualtext.proofs.usual_year.Statement.{statement}
+use Rattle.usualtext.proofs.usual_year.Tie as tie
 
 returns : tie.Need-returns
 returns c = IfAt.other

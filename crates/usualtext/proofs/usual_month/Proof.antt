@@ -1,12 +1,12 @@
--- `datetext::usual_month` meets its contract: the digits before the dash are those of the month.
+-- `usualtext::usual_month` meets its contract: the digits before the dash are those of the month.
 -- Assumes nothing.
 use mathlib.Core.Path.{sym, _∙_}
 use native.Mathlib.Omega.{arith}
 use Rattle.digits.specs.Few.{digit-seen}
-use Rattle.datetext.specs.Usual.{IfAt, two-digit-month, one-digit-month}
+use Rattle.usualtext.specs.Usual.{IfAt, two-digit-month, one-digit-month}
 use borrow.Author.Needs.{needs}
-use Rattle.datetext.proofs.usual_month.Statement.{statement}
-use Rattle.datetext.proofs.usual_month.Tie as tie
+use Rattle.usualtext.proofs.usual_month.Statement.{statement}
+use Rattle.usualtext.proofs.usual_month.Tie as tie
 
 sub-if1 : tie.Need-sub-if1
 sub-if1 c = search needs
