@@ -7,7 +7,9 @@ use mathlib.Core.List.{List, _∷_, _++_}
 use lib.ListN.{length}
 use lib.IntN.{ℤ, pos}
 use Rattle.refusals.specs.declared.Refusal.{Refusal}
-use Rattle.numbertext.specs.Numerals.{dash, refusal, Unsigned, Signed, Stops, NoNumber, NoSigned, NoDash}
+use Rattle.refusals.specs.Refusals.{refusal}
+use Rattle.digits.specs.Numerals.{dash, Stops}
+use Rattle.numbertext.specs.Numerals.{Unsigned, Signed, NoNumber, NoSigned, NoDash}
 use Rattle.datetext.specs.declared.Text.{Text}
 
 pub record Month (m : ℕ) : Type 0 where
@@ -39,7 +41,7 @@ pub data Fault : List ℕ → Refusal → Type 0 where
   left-over : {p q t u : List ℕ} {y : ℤ} {m d b : ℕ} → Signed p y → Unsigned q m → Month m → Unsigned t d → Stops (b ∷ u)
       → Fault (p ++ (dash ∷ (q ++ (dash ∷ (t ++ (b ∷ u)))))) (refusal 14 (length p + 1 + length q + 1 + length t) (pos b))
 
--- what `read_date` answers: the date that the text writes, or the text's first fault
+-- what a reader answers: the date that the text writes, or the text's first fault
 pub data ReadDate (s : List ℕ) : Text → Type 0 where
   ordinal-text : {y : ℤ} {n k : ℕ} → OrdinalText s y n k → ReadDate s (Text.Ordinal y n k)
   ymd-text : {y : ℤ} {m d k : ℕ} → YmdText s y m d k → ReadDate s (Text.Ymd y m d k)

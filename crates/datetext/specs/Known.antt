@@ -5,8 +5,10 @@ use mathlib.Core.Path.{refl}
 use mathlib.Core.List.{List, [], _∷_}
 use lib.IntN.{pos}
 use Rattle.whole.specs.Edge.{signedOf}
-use Rattle.numbertext.specs.Numerals.{plus, dash, refusal}
-use Rattle.numbertext.specs.Reading.{placed, runFrom, readNumber, signedRun, readSigned, readDash, readEnd}
+use Rattle.refusals.specs.Refusals.{refusal}
+use Rattle.digits.specs.Numerals.{plus, dash}
+use Rattle.digits.specs.Reading.{runFrom}
+use Rattle.numbertext.specs.Reading.{placed, readNumber, signedRun, readSigned, readDash, readEnd}
 use Rattle.datetext.specs.Grammar.{ReadDate}
 use Rattle.datetext.specs.Reading.{readText, read-meant}
 use Rattle.datetext.specs.declared.Text.{Text}

@@ -13,10 +13,14 @@ use lib.IntN.{ℤ, pos}
 use lib.Dec.{ltb, leb}
 use borrow.Author.Tests.{lt-ltb, le-ltb, le-leb, leb-true}
 use Rattle.refusals.specs.declared.Refusal.{Refusal}
-use Rattle.numbertext.specs.Numerals.{dash, refusal, Unsigned, Signed, Stops, NoNumber, NoDash}
+use Rattle.refusals.specs.Refusals.{refusal}
+use Rattle.digits.specs.Numerals.{dash, Stops}
+use Rattle.digits.specs.Reading.{pick}
+use Rattle.digits.specs.Runs.{pick-yes, pick-no, both}
+use Rattle.numbertext.specs.Numerals.{Unsigned, Signed, NoNumber, NoDash}
 use Rattle.numbertext.specs.Promise.{NumberFrom, SignedFrom, DashFrom, EndFrom}
-use Rattle.numbertext.specs.Reading.{pick, placed, readNumber, theNumber, readSigned, theSigned, readDash, theDash, readEnd, theEnd}
-use Rattle.numbertext.specs.Digits.{pick-yes, pick-no, both, placed-in}
+use Rattle.numbertext.specs.Reading.{placed, readNumber, theNumber, readSigned, theSigned, readDash, theDash, readEnd, theEnd}
+use Rattle.numbertext.specs.Places.{placed-in}
 use Rattle.numbertext.specs.Meaning.{number-sound, number-complete, signed-sound, signed-complete, dash-sound, dash-complete, end-sound, end-complete}
 use Rattle.numbertext.specs.declared.Number.{Number}
 use Rattle.numbertext.specs.declared.SignedNumber.{SignedNumber}

@@ -1,5 +1,5 @@
 -- THE THEOREMS ON THE TEXT OF A DATE.
--- Two answers that the promise of `read_date` allows are one. A text belongs to the grammar or has a fault, never both; it writes one date at most, in
+-- Two answers that the promise of a reader allows are one. A text belongs to the grammar or has a fault, never both; it writes one date at most, in
 -- one of the two ways; and it has one fault at most. What is written belongs to the grammar and is read back.
 -- Assumes nothing.
 use Prim.Native.Nat.{ℕ, _<_, _^_}

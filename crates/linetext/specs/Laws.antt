@@ -9,7 +9,8 @@ use lib.ListN.{length, getD, take, drop, set, length-append, length-set}
 use lib.Seq.{take-suc, take-all, take-at, length-take-le}
 use lib.IntN.{ℤ, pos, natAbs}
 use Rattle.whole.specs.Edge.{isNegative}
-use Rattle.numbertext.specs.Numerals.{dash, refusal}
+use Rattle.refusals.specs.Refusals.{refusal}
+use Rattle.digits.specs.Numerals.{dash}
 use Rattle.refusals.specs.declared.Refusal.{Refusal}
 use Rattle.writer.specs.Writing.{WholeDecimal, put, Puts, Writes}
 use Rattle.writer.specs.Decimals.{digitsOf, length-digits, width-few, decimal-of, counting-start, counting-step}

@@ -15,7 +15,7 @@ use Rattle.calendar.specs.Promise.{refusal}
 use Rattle.writer.specs.Writing.{put, Puts, Writes}
 use Rattle.writer.specs.Puts.{put-none, length-put, wrote, left-alone}
 use Rattle.writer.specs.declared.Written.{Written}
-use Rattle.numbertext.specs.Numerals.{refusal as textRefusal}
+use Rattle.refusals.specs.Refusals.{refusal as textRefusal}
 use Rattle.refusals.specs.declared.Refusal.{Refusal}
 use Rattle.bytesearch.specs.Promise.{Without, UpTo}
 use Rattle.entry.specs.Entry.{LineAnswer}

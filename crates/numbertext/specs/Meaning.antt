@@ -1,103 +1,30 @@
 -- What `Reading` computes is what `Numerals` and `Promise` say, both ways: the computed answer is right (`sound`), and a right answer is the
 -- computed one (`complete`). So two answers that a promise allows are one (`one`).
 -- Assumes nothing.
-use Prim.Native.Nat.{ℕ, _+_, _-_, _≤_, _<_}
+use Prim.Native.Nat.{ℕ, _+_, _≤_, _<_}
 use mathlib.Core.Path.{_≡_, refl, sym, _∙_, ap, subst}
 use mathlib.Core.Bool.{Bool, true, false}
 use mathlib.Core.List.{List, [], _∷_, _++_, append-assoc}
 use native.Mathlib.Omega.{arith}
 use lib.ListN.{length, drop, length-append}
 use lib.IntN.{ℤ, pos, negℤ}
-use lib.Dec.{leb, ltb, eqb}
-use borrow.Author.Tests.{leb-true, leb-false, ltb-true, ltb-false, ne-eqb, eqb-true, eqb-false}
+use lib.Dec.{ltb, eqb}
+use borrow.Author.Tests.{ltb-true, ltb-false, ne-eqb, eqb-true, eqb-false}
 use Rattle.refusals.specs.declared.Refusal.{Refusal}
 use Rattle.whole.specs.Edge.{signedOf}
-use Rattle.numbertext.specs.Numerals.{plus, dash, valueOf, refusal, Digits, Numeral, Signed, Stops, NoNumber, NoSigned, NoDash}
+use Rattle.refusals.specs.Refusals.{refusal}
+use Rattle.digits.specs.Numerals.{plus, dash, Digits, Numeral, Stops}
+use Rattle.digits.specs.Reading.{pick, runOf}
+use Rattle.digits.specs.Runs.{pick-no, RunView, run-view, run-none, run-is, run-large}
+use Rattle.digits.specs.declared.Run.{Run}
+use Rattle.numbertext.specs.Numerals.{Signed, NoNumber, NoSigned, NoDash}
 use Rattle.numbertext.specs.Promise.{NumberFrom, SignedFrom, DashFrom, EndFrom, At, NumberAt, SignedAt, DashAt, EndAt}
-use Rattle.numbertext.specs.Reading.{pick, isDigit, front, runFrom, runOf, placed, noNumber, toNumber, readNumber, theNumber, limitOf, toSigned, signedRun, readSigned, theSigned, readDash, theDash, readEnd, theEnd}
-use Rattle.numbertext.specs.Digits.{pick-no, digit-is, is-digit, digit-not, not-digit, front-yes, front-no, run-empty, run-value, run-over, placed-past, placed-in}
-use Rattle.numbertext.specs.declared.Run.{Run}
+use Rattle.numbertext.specs.Reading.{placed, noNumber, toNumber, readNumber, theNumber, limitOf, toSigned, signedRun, readSigned, theSigned, readDash, theDash, readEnd, theEnd}
+use Rattle.numbertext.specs.Places.{placed-past, placed-in}
 use Rattle.numbertext.specs.declared.Number.{Number}
 use Rattle.numbertext.specs.declared.SignedNumber.{SignedNumber}
 use Rattle.numbertext.specs.declared.Dash.{Dash}
 use Rattle.numbertext.specs.declared.End.{End}
-
--- ---- the digits that come first, and what comes after them
-
-abbrev back : List ℕ → List ℕ
-back [] = []
-back (b ∷ s) = pick (isDigit b) (back s) (b ∷ s)
-
-front-digits : (s : List ℕ) → Digits (front s)
-front-digits [] = Digits.none
-front-digits (b ∷ s) = go (isDigit b) refl (front-digits s)
-  where
-    go : (t : Bool) → isDigit b ≡ t → Digits (front s) → Digits (pick t (b ∷ front s) [])
-    go true e ds = Digits.more (digit-is b e) ds
-    go false e ds = Digits.none
-
-front-back : (s : List ℕ) → front s ++ back s ≡ s
-front-back [] = refl
-front-back (b ∷ s) = go (isDigit b) (front-back s)
-  where
-    go : (t : Bool) → front s ++ back s ≡ s → pick t (b ∷ front s) [] ++ pick t (back s) (b ∷ s) ≡ b ∷ s
-    go true ih = ap (λ (x : List ℕ). b ∷ x) ih
-    go false ih = refl
-
-back-stops : (s : List ℕ) → Stops (back s)
-back-stops [] = Stops.ended
-back-stops (b ∷ s) = go (isDigit b) refl (back-stops s)
-  where
-    go : (t : Bool) → isDigit b ≡ t → Stops (back s) → Stops (pick t (back s) (b ∷ s))
-    go true e ih = ih
-    go false e ih = Stops.other (digit-not b e)
-
-stops-front : {u : List ℕ} → Stops u → front u ≡ []
-stops-front Stops.ended = refl
-stops-front (Stops.other {b} {u} h) = front-no b u (not-digit b h)
-
-digits-front : {p u : List ℕ} → Digits p → Stops u → front (p ++ u) ≡ p
-digits-front Digits.none st = stops-front st
-digits-front {p} {u} (Digits.more {b} {s} d ds) st = front-yes b (s ++ u) (is-digit d) ∙ ap (λ (x : List ℕ). b ∷ x) (digits-front ds st)
-
--- ---- a run
-
-data RunView (limit at : ℕ) (u : List ℕ) : Run → Type 0 where
-  empty : Stops u → RunView limit at u Run.Empty
-  value : {p v : List ℕ} {n : ℕ} → u ≡ p ++ v → Numeral p n → Stops v → n ≤ limit → RunView limit at u (Run.Value n (at + length p))
-  over : {p v : List ℕ} {n : ℕ} → u ≡ p ++ v → Numeral p n → Stops v → limit < n → RunView limit at u Run.Over
-
-run-view : (limit at : ℕ) (u : List ℕ) → RunView limit at u (runOf limit at u)
-unfolding runFrom
-run-view limit at u = go (front u) refl
-  where
-    go : (p : List ℕ) → front u ≡ p → RunView limit at u (runFrom limit at p)
-    go [] e = RunView.empty (subst Stops (sym (ap (λ (x : List ℕ). x ++ back u) e) ∙ front-back u) (back-stops u))
-    go (b ∷ p) e = judge (leb (valueOf (b ∷ p)) limit) refl
-      where
-        parted : u ≡ (b ∷ p) ++ back u
-        parted = sym (sym (ap (λ (x : List ℕ). x ++ back u) e) ∙ front-back u)
-
-        written : Numeral (b ∷ p) (valueOf (b ∷ p))
-        written = record { some = omega arith; digits = subst Digits e (front-digits u); writes = refl }
-
-        judge : (t : Bool) → leb (valueOf (b ∷ p)) limit ≡ t → RunView limit at u (pick t (Run.Value (valueOf (b ∷ p)) (at + length (b ∷ p))) Run.Over)
-        judge true h = RunView.value parted written (back-stops u) (leb-true _ _ h)
-        judge false h = RunView.over parted written (back-stops u) (leb-false _ _ h)
-
-module _ (limit at : ℕ) where
-  run-none : {u : List ℕ} → Stops u → runOf limit at u ≡ Run.Empty
-  run-none st = ap (runFrom limit at) (stops-front st) ∙ run-empty limit at
-
-  module _ {p u : List ℕ} {n : ℕ} (w : Numeral p n) (st : Stops u) where
-    run-is : n ≤ limit → runOf limit at (p ++ u) ≡ Run.Value n (at + length p)
-    run-is h =
-        ap (runFrom limit at) (digits-front (w .digits) st)
-        ∙ run-value limit at p (w .some) (subst (λ (k : ℕ). k ≤ limit) (sym (w .writes)) h)
-        ∙ ap (λ (k : ℕ). Run.Value k (at + length p)) (w .writes)
-
-    run-large : limit < n → runOf limit at (p ++ u) ≡ Run.Over
-    run-large h = ap (runFrom limit at) (digits-front (w .digits) st) ∙ run-over limit at p (subst (λ (k : ℕ). limit < k) (sym (w .writes)) h)
 
 -- ---- an unsigned number
 

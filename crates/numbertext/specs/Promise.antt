@@ -5,7 +5,9 @@ use mathlib.Core.List.{List, [], _∷_, _++_}
 use lib.ListN.{length, drop}
 use lib.IntN.{ℤ, pos}
 use Rattle.refusals.specs.declared.Refusal.{Refusal}
-use Rattle.numbertext.specs.Numerals.{dash, refusal, Unsigned, Signed, Stops, NoNumber, NoSigned, NoDash}
+use Rattle.refusals.specs.Refusals.{refusal}
+use Rattle.digits.specs.Numerals.{dash, Stops}
+use Rattle.numbertext.specs.Numerals.{Unsigned, Signed, NoNumber, NoSigned, NoDash}
 use Rattle.numbertext.specs.declared.Number.{Number}
 use Rattle.numbertext.specs.declared.SignedNumber.{SignedNumber}
 use Rattle.numbertext.specs.declared.Dash.{Dash}

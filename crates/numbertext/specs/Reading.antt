@@ -1,44 +1,21 @@
 -- What is found at a place of a list of bytes, by computing, in the order of the code. `Meaning` shows that this is what `Numerals` says.
 -- Assumes nothing.
-use Prim.Native.Nat.{ℕ, _+_, _-_, _*_}
+use Prim.Native.Nat.{ℕ, _+_}
 use mathlib.Core.List.{List, [], _∷_}
 use mathlib.Core.Bool.{Bool, true, false}
-use lib.ListN.{length, drop, getD}
-use lib.Dec.{ltb, leb, eqb}
+use lib.ListN.{length, drop}
+use lib.Dec.{ltb, eqb}
 use lib.IntN.{pos}
 use Rattle.refusals.specs.declared.Refusal.{Refusal}
+use Rattle.refusals.specs.Refusals.{refusal}
 use Rattle.whole.specs.Edge.{signedOf}
-use Rattle.numbertext.specs.Numerals.{plus, dash, valueOf, refusal}
-use Rattle.numbertext.specs.declared.Run.{Run}
+use Rattle.digits.specs.Numerals.{plus, dash}
+use Rattle.digits.specs.Reading.{pick, runOf}
+use Rattle.digits.specs.declared.Run.{Run}
 use Rattle.numbertext.specs.declared.Number.{Number}
 use Rattle.numbertext.specs.declared.SignedNumber.{SignedNumber}
 use Rattle.numbertext.specs.declared.Dash.{Dash}
 use Rattle.numbertext.specs.declared.End.{End}
-
-abbrev pub pick : {A : Type 0} → Bool → A → A → A
-pick true a b = a
-pick false a b = b
-
-abbrev pub isDigit : ℕ → Bool
-isDigit b = pick (leb 48 b) (leb b 57) false
-
--- the digits that come first
-abbrev pub front : List ℕ → List ℕ
-front [] = []
-front (b ∷ s) = pick (isDigit b) (b ∷ front s) []
-
--- ---- a run of digits: p are the digits, which stand at `at`
-
-unfoldable pub runFrom : ℕ → ℕ → List ℕ → Run
-runFrom limit at [] = Run.Empty
-runFrom limit at (b ∷ p) = pick (leb (valueOf (b ∷ p)) limit) (Run.Value (valueOf (b ∷ p)) (at + length (b ∷ p))) Run.Over
-
-abbrev pub runOf : ℕ → ℕ → List ℕ → Run
-runOf limit at u = runFrom limit at (front u)
-
--- a run that wrote n and goes from `at` to i
-abbrev pub endsOf : ℕ → ℕ → ℕ → Run
-endsOf n at i = pick (eqb i at) Run.Empty (Run.Value n i)
 
 -- ---- at a place of s, what f finds in the bytes from there on; a place past the bytes is refused 16
 unfoldable pub placed : {A : Type 0} → (Refusal → A) → (ℕ → List ℕ → A) → List ℕ → ℕ → A
@@ -107,20 +84,3 @@ readEnd at (b ∷ u) = End.Refused (refusal 14 at (pos b))
 
 abbrev pub theEnd : List ℕ → ℕ → End
 theEnd s at = placed End.Refused readEnd s at
-
--- ---- one digit, and two
-
--- a byte less 48, which wraps in 32 bits: below 10 exactly for a digit
-abbrev pub digitValue : ℕ → ℕ
-digitValue b = pick (leb 48 b) (b - 48) (b + 4294967248)
-
--- 10 where the bytes end
-unfoldable pub digitOf : List ℕ → ℕ → ℕ
-digitOf s at = pick (ltb at (length s)) (digitValue (getD s at 0)) 10
-
--- 100 where they are not two digits
-abbrev pub pairValue : ℕ → ℕ → ℕ
-pairValue a b = pick (ltb 9 a) 100 (pick (ltb 9 b) 100 (a * 10 + b))
-
-unfoldable pub pairOf : List ℕ → ℕ → ℕ
-pairOf s at = pairValue (digitOf s at) (digitOf s (at + 1))

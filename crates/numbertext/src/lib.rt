@@ -1,13 +1,13 @@
-// Numbers in text: what stands at a place of the bytes. Number reading is here and nowhere else.
+// Numbers in text: what stands at a place of the bytes. A number is read here and nowhere else; its digits are read by `digits`.
 // Each call answers for any bytes and any place.
 
 ghost use mathlib.Core.Path.{_≡_};
-ghost use Prim.Native.Nat.{_<_, _^_};
 ghost use lib.ListN.{drop};
 ghost use lib.IntN.{pos};
-ghost use Rattle.numbertext.specs.Numerals.{refusal as refusalOf};
+ghost use Rattle.refusals.specs.Refusals.{refusal as refusalOf};
 ghost use Rattle.numbertext.specs.Promise.{NumberAt, SignedAt, DashAt, EndAt};
-ghost use Rattle.numbertext.specs.Reading.{isDigit, digitOf, pairOf, runOf, endsOf, endedAt, signedRun, limitOf};
+ghost use Rattle.numbertext.specs.Reading.{endedAt, signedRun, limitOf};
+use digits::Run;
 use refusals::Refusal;
 use whole::Narrowed;
 
@@ -52,54 +52,6 @@ pub fn byte_refusal(number: u32, place: usize, b: u8) -> Refusal
     refusal(number, place, b as u32)
 }
 
-// ---- a run of digits
-
-fn is_digit(b: u64) -> bool
-    ensures { λ r. ⌜ r ≡ isDigit b ⌝ }
-{
-    48 <= b && b <= 57
-}
-
-// The digits at a place: none, or the number that they write and the place after them, or they leave the range of the field.
-enum Run {
-    Empty,
-    Value(u64, usize),
-    Over,
-}
-
-// A run that goes from `at` to i and has written n.
-fn run_ends(n: u64, at: usize, i: usize) -> Run
-    ensures { λ r. ⌜ r ≡ endsOf n at i ⌝ }
-{
-    if i == at {
-        Run::Empty
-    } else {
-        Run::Value(n, i)
-    }
-}
-
-// The range is 0 to `limit`. A number only grows with its digits, so the first digit that takes it out of the range decides.
-fn run_at(s: &[u8], at: usize, limit: u64) -> Run
-    requires { ⌜ limit < 2 ^ 60 ⌝ }
-    ensures { λ r. ⌜ r ≡ runOf limit at (drop at (now (s .entry))) ⌝ }
-{
-    let mut n: u64 = 0;
-    let mut i = at;
-    while i < s.len() {
-        let b = s[i] as u64;
-        if is_digit(b) {
-            n = n * 10 + (b - 48);
-            if limit < n {
-                return Run::Over;
-            }
-            i += 1;
-        } else {
-            return run_ends(n, at, i);
-        }
-    }
-    run_ends(n, at, i)
-}
-
 // ---- what stands at a place
 
 // The text ends where something is expected, or the place is past it.
@@ -116,7 +68,7 @@ fn ended_at(s: &[u8], at: usize, number: u32) -> Refusal
 pub fn number_at(s: &[u8], at: usize) -> Number
     ensures { λ r. ⌜ NumberAt (now (s .entry)) at r ⌝ }
 {
-    match run_at(s, at, 4_294_967_295) {
+    match digits::run_at(s, at, 4_294_967_295) {
         Run::Value(n, next) => Number::Value(n as u32, next),
         Run::Over => Number::Refused(refusal(11, at, 0)),
         Run::Empty => {
@@ -130,7 +82,7 @@ pub fn number_at(s: &[u8], at: usize) -> Number
 }
 
 // The greatest magnitude that fits signed 32 bits.
-fn limit(negative: bool) -> u64
+fn limit(negative: bool) -> u32
     ensures { λ r. ⌜ r ≡ limitOf negative ⌝ }
 {
     if negative {
@@ -144,7 +96,7 @@ fn limit(negative: bool) -> u64
 fn signed_run(s: &[u8], negative: bool, at: usize, first: usize, none: Refusal) -> SignedNumber
     ensures { λ r. ⌜ r ≡ signedRun negative at first none (drop first (now (s .entry))) ⌝ }
 {
-    match run_at(s, first, limit(negative)) {
+    match digits::run_at(s, first, limit(negative)) {
         Run::Value(n, next) => match whole::signed(negative, n) {
             Narrowed::Fits(y) => SignedNumber::Value(y, next),
             Narrowed::Above => SignedNumber::Refused(refusal(11, at, 0)),
@@ -195,33 +147,4 @@ pub fn end_at(s: &[u8], at: usize) -> End
         return End::Reached;
     }
     End::Refused(byte_refusal(14, at, s[at]))
-}
-
-// ---- one digit and two, without a refusal: for a reader that goes the long way where they do not stand
-
-// The byte at a place less 48, which is `0`; below that it wraps. So it is below 10 exactly where a digit stands there, and one test tells.
-// 10 where the bytes end.
-pub fn digit_at(s: &[u8], at: usize) -> u32
-    ensures { λ r. ⌜ r ≡ digitOf (now (s .entry)) at ⌝ }
-{
-    if at >= s.len() {
-        return 10;
-    }
-    let b = s[at];
-    std::num::wrapping_sub_u32(b as u32, 48)
-}
-
-// The number that two digits write, or 100 where one of the two does not stand there.
-pub fn pair_at(s: &[u8], at: usize) -> u32
-    ensures { λ r. ⌜ r ≡ pairOf (now (s .entry)) at ⌝ }
-{
-    let tens = digit_at(s, at);
-    if 9 < tens {
-        return 100;
-    }
-    let ones = digit_at(s, at + 1);
-    if 9 < ones {
-        return 100;
-    }
-    tens * 10 + ones
 }

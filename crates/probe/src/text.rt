@@ -138,7 +138,7 @@ fn said(answer: Text) -> Reply {
 pub fn whole_text(line: &[u8], from: usize) -> Reply {
     if from <= line.len() {
         let end = line.len();
-        return said(datetext::read_date(&line[from..end]));
+        return said(usualtext::read_date(&line[from..end]));
     }
     reply::unreadable()
 }

@@ -9,7 +9,7 @@ use native.Mathlib.Omega.{arith}
 use lib.ListN.{length, getD, length-append}
 use lib.IntN.{ℤ}
 use Rattle.whole.specs.Tests.{lt-or-ge}
-use Rattle.numbertext.specs.Numerals.{dash, valueFrom, valueOf, Digit, Digits, Numeral}
+use Rattle.digits.specs.Numerals.{dash, valueFrom, valueOf, Digit, Digits, Numeral}
 use Rattle.writer.specs.Writing.{Decimal, WholeDecimal, YmdDecimal}
 
 -- the last k digits of n

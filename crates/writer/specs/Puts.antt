@@ -15,7 +15,8 @@ use Rattle.whole.specs.Tests.{lt-or-ge}
 use lib.IntN.{ℤ, pos, negsuc, natAbs}
 use Rattle.refusals.specs.declared.Refusal.{Refusal}
 use Rattle.whole.specs.Edge.{isNegative}
-use Rattle.numbertext.specs.Numerals.{dash, refusal}
+use Rattle.refusals.specs.Refusals.{refusal}
+use Rattle.digits.specs.Numerals.{dash}
 use Rattle.writer.specs.Writing.{Decimal, WholeDecimal, YmdDecimal, put, Puts, Writes, PutNumber, PutWhole, WriteYmd}
 use Rattle.writer.specs.Decimals.{digitsOf, length-digits, Width, decimal-of}
 use Rattle.writer.specs.declared.Written.{Written}

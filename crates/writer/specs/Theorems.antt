@@ -9,7 +9,7 @@ use native.Mathlib.Omega.{arith}
 use lib.ListN.{length, take, drop, length-append}
 use lib.Seq.{take-append-seam}
 use lib.IntN.{ℤ, natAbs}
-use Rattle.numbertext.specs.Numerals.{dash}
+use Rattle.digits.specs.Numerals.{dash}
 use Rattle.writer.specs.Writing.{WholeDecimal, YmdDecimal, put, Puts, Writes, PutNumber, PutWhole, WriteYmd}
 use Rattle.writer.specs.Decimals.{decimal-of, decimal-one, whole-one, ymd-one, decimal-short}
 use Rattle.writer.specs.Puts.{wholeText, Signs}

@@ -5,7 +5,8 @@ use mathlib.Core.Path.{_≡_}
 use mathlib.Core.List.{List, _∷_, _++_}
 use lib.ListN.{length, getD, take, drop}
 use lib.IntN.{ℤ, pos, negsuc}
-use Rattle.numbertext.specs.Numerals.{dash, refusal, Numeral}
+use Rattle.refusals.specs.Refusals.{refusal}
+use Rattle.digits.specs.Numerals.{dash, Numeral}
 use Rattle.writer.specs.declared.Written.{Written}
 
 -- digits that write n with no padding: a '0' stands first only where it stands alone

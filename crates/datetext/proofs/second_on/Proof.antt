@@ -8,7 +8,7 @@ use Rattle.numbertext.specs.Meaning.{number-is}
 use Rattle.datetext.specs.Reading.{afterMonth, afterSecond}
 use Rattle.datetext.specs.declared.Text.{Text}
 use Rattle.numbertext.specs.Reading.{theDash}
-use Rattle.numbertext.specs.Digits.{pick-yes, pick-no}
+use Rattle.digits.specs.Runs.{pick-yes, pick-no}
 use borrow.Author.Tests.{lt-ltb, le-ltb}
 use borrow.Author.Needs.{needs}
 use Rattle.datetext.proofs.second_on.Statement.{statement}

@@ -2,7 +2,7 @@
 -- Assumes nothing.
 use mathlib.Core.Path.{sym, ap, _∙_}
 use Rattle.numbertext.specs.Meaning.{dash-meant}
-use Rattle.numbertext.specs.Digits.{dash-yes, dash-other, dash-end}
+use Rattle.numbertext.specs.Places.{dash-yes, dash-other, dash-end}
 use Rattle.numbertext.specs.declared.Dash.{Dash}
 use borrow.Author.Needs.{needs}
 use Rattle.numbertext.proofs.dash_at.Statement.{statement}

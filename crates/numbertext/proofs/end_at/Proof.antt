@@ -2,7 +2,7 @@
 -- Assumes nothing.
 use mathlib.Core.Path.{sym, ap, _∙_}
 use Rattle.numbertext.specs.Meaning.{end-meant}
-use Rattle.numbertext.specs.Digits.{end-over, end-past, end-reached}
+use Rattle.numbertext.specs.Places.{end-over, end-past, end-reached}
 use Rattle.numbertext.specs.declared.End.{End}
 use borrow.Author.Needs.{needs}
 use Rattle.numbertext.proofs.end_at.Statement.{statement}

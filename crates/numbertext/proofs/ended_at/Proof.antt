@@ -3,7 +3,7 @@
 use mathlib.Core.Path.{sym, _∙_}
 use borrow.Author.Needs.{needs}
 use borrow.Author.Tests.{lt-ltb, le-ltb}
-use Rattle.numbertext.specs.Digits.{pick-yes, pick-no}
+use Rattle.digits.specs.Runs.{pick-yes, pick-no}
 use Rattle.numbertext.proofs.ended_at.Statement.{statement}
 use Rattle.numbertext.proofs.ended_at.Tie as tie
 

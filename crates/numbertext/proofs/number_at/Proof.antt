@@ -4,7 +4,8 @@ use mathlib.Core.Path.{sym, ap, _∙_}
 use Prim.Native.Nat.{ℕ, _≤_, _<_, _^_}
 use native.Mathlib.Omega.{arith}
 use Rattle.numbertext.specs.Meaning.{number-meant}
-use Rattle.numbertext.specs.Digits.{run-within, number-value, number-over, number-other, number-end}
+use Rattle.digits.specs.Runs.{run-within}
+use Rattle.numbertext.specs.Places.{number-value, number-over, number-other, number-end}
 use Rattle.numbertext.specs.declared.Number.{Number}
 use borrow.Author.Needs.{needs}
 use Rattle.numbertext.proofs.number_at.Statement.{statement}

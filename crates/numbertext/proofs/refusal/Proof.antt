@@ -3,7 +3,7 @@
 use mathlib.Core.Path.{ap, _∙_}
 use mir.Facts.{toZ-ofZ}
 use borrow.Author.Needs.{needs, sfits-of}
-use Rattle.numbertext.specs.Numerals.{refusal}
+use Rattle.refusals.specs.Refusals.{refusal}
 use Rattle.numbertext.proofs.refusal.Statement.{statement}
 use Rattle.numbertext.proofs.refusal.Tie as tie
 

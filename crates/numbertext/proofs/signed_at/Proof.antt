@@ -2,7 +2,7 @@
 -- Assumes nothing.
 use mathlib.Core.Path.{sym, ap, _∙_}
 use Rattle.numbertext.specs.Meaning.{signed-meant}
-use Rattle.numbertext.specs.Digits.{signed-none, signed-dash, signed-plus, signed-plain, signed-end}
+use Rattle.numbertext.specs.Places.{signed-none, signed-dash, signed-plus, signed-plain, signed-end}
 use Rattle.numbertext.specs.declared.SignedNumber.{SignedNumber}
 use borrow.Author.Needs.{needs}
 use Rattle.numbertext.proofs.signed_at.Statement.{statement}

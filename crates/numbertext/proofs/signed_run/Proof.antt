@@ -1,8 +1,7 @@
 -- `numbertext::signed_run` meets its contract: the magnitude that the run tells is in the range, so that `whole::signed` brings it into 32 bits.
 -- Assumes nothing.
-use mathlib.Core.Path.{sym, ap, _∙_, subst}
-use Prim.Native.Nat.{ℕ, _<_, _^_}
-use Rattle.numbertext.specs.Digits.{limit-low, signed-as, signed-value, never-above, never-below}
+use mathlib.Core.Path.{sym, ap, _∙_}
+use Rattle.numbertext.specs.Places.{signed-as, signed-value, never-above, never-below}
 use Rattle.numbertext.specs.declared.SignedNumber.{SignedNumber}
 use borrow.Author.Needs.{needs}
 use Rattle.numbertext.proofs.signed_run.Statement.{statement}
@@ -12,7 +11,7 @@ limit-requires : tie.Need-limit-requires
 limit-requires c κs = search needs
 
 run-at-requires : tie.Need-run-at-requires
-run-at-requires c κs = subst (λ (k : ℕ). k < 2 ^ 60) (sym (c .limit .ensures)) (limit-low (c .before .before .args .negative))
+run-at-requires c κs = search needs
 
 enum-known-n : tie.Need-enum-known-n
 enum-known-n c = search needs

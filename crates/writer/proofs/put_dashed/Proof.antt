@@ -4,7 +4,7 @@ use mathlib.Core.Path.{_∙_}
 use native.Mathlib.Omega.{arith}
 use lib.ListN.{length-set}
 use denote.Ref.{now}
-use Rattle.numbertext.specs.Numerals.{dash}
+use Rattle.digits.specs.Numerals.{dash}
 use Rattle.writer.specs.Puts.{so-dashed}
 use borrow.Author.Needs.{needs}
 use Rattle.writer.proofs.put_dashed.Statement.{statement}
