@@ -2,53 +2,23 @@
 -- Assumes nothing.
 use Prim.Native.Nat.{ℕ, _+_, _-_, _≤_, _<_}
 use mathlib.Core.Path.{_≡_, refl, sym, _∙_, ap, subst}
-use mathlib.Core.List.{List, [], _∷_, _++_}
+use mathlib.Core.List.{List, _∷_, _++_}
 use native.Mathlib.Omega.{arith}
 use lib.ListN.{length, take, drop, length-append, length-drop}
 use lib.Seq.{take-all, take-at}
-use lib.IntN.{ℤ, pos}
-use Rattle.days.specs.DayByDay.{weekday}
-use Rattle.calendar.specs.declared.Date.{Date}
 use Rattle.calendar.specs.declared.Dated.{Dated}
-use Rattle.calendar.specs.declared.Dated.the-variants as Dated′
-use Rattle.calendar.specs.Promise.{refusal}
 use Rattle.writer.specs.Writing.{put, Puts, Writes}
-use Rattle.writer.specs.Puts.{put-none, length-put, wrote, left-alone}
+use Rattle.writer.specs.Puts.{length-put}
 use Rattle.writer.specs.declared.Written.{Written}
-use Rattle.refusals.specs.Refusals.{refusal as textRefusal}
 use Rattle.refusals.specs.declared.Refusal.{Refusal}
 use Rattle.bytesearch.specs.Promise.{Without, UpTo}
 use Rattle.entry.specs.Entry.{LineAnswer}
-use Rattle.linetext.specs.Line.{newline, LineOut, Copies, copied, no-room}
-use Rattle.linetext.specs.declared.Row.{Row}
+use Rattle.linetext.specs.Line.{newline, LineOut}
 use Rattle.linetext.specs.declared.Line.{Line}
-use Rattle.linetext.specs.declared.Copied.{Copied}
-use Rattle.listing.specs.Lines.{header, rowOf, lineOf, Listed, listed}
-
--- ---- an unfinished line, in the line buffer: n bytes of it stand there, or it is too long, and n is above 512
-
--- the bytes q are added to it
-pub data Fills (l : List ℕ) (n : ℕ) (q : List ℕ) : List ℕ → ℕ → Type 0 where
-  fits : n + length q ≤ 512 → Fills l n q (put l n q) (n + length q)
-  over : 512 < n + length q → Fills l n q l 513
-
--- the answer to the line, when it is finished
-pub data HeldAnswer (l : List ℕ) (n : ℕ) : Dated → Type 0 where
-  short : {a : Dated} → n ≤ 512 → LineAnswer (take n l) a → HeldAnswer l n a
-  long : 512 < n → HeldAnswer l n (Dated′.Refused (refusal 20 (pos 0)))
-
--- the line of the listing for that answer
-pub data HeldAs (l : List ℕ) (n : ℕ) : Line → Type 0 where
-  held-as : {a : Dated} → HeldAnswer l n a → HeldAs l n (lineOf a)
-
--- and what is written for it
-pub data HeldLine (l : List ℕ) (n : ℕ) : List ℕ → Type 0 where
-  held-line : {a : Dated} {t : List ℕ} → HeldAnswer l n a → LineOut (lineOf a) t → HeldLine l n t
-
--- the last line, which needs no newline; none where nothing is held
-pub data LastLine (l : List ℕ) : ℕ → List ℕ → Type 0 where
-  no-more : LastLine l 0 []
-  one-more : {n : ℕ} {t : List ℕ} → 0 < n → HeldLine l n t → LastLine l n t
+use Rattle.columns.specs.Columns.{lineOf}
+use Rattle.heldline.specs.Held.{Fills, HeldAs, HeldLine}
+use Rattle.heldline.specs.Laws.{held-short}
+use Rattle.listing.specs.Lines.{Listed, listed}
 
 -- ---- a block, from a place on: where the listing stands in it
 
@@ -84,17 +54,6 @@ held-wrote (HeldAs.held-as h) (Writes.writes x (Puts.done k)) = wrote-it (HeldLi
 
 pub held-room : {m : Line} {b : List ℕ} {at : ℕ} {b′ : List ℕ} {f : Refusal} → at + 132 ≤ length b → Writes (LineOut m) b at b′ (Written.Refused f) → ⊥
 held-room k (Writes.writes x (Puts.short s)) = omega (arith, x .short)
-
-held-short : {l : List ℕ} {n : ℕ} {t : List ℕ} → HeldLine l n t → length t ≤ 132
-held-short (HeldLine.held-line h x) = x .short
-
--- ---- a line in the line buffer
-
-pub fills-to : {l : List ℕ} {n : ℕ} {q l′ : List ℕ} {i : ℕ} → length l ≡ 512 → Copies q l n l′ (Copied.To i) → Fills l n q l′ i
-fills-to e (copied h) = Fills.fits (omega arith)
-
-pub fills-over : {l : List ℕ} {n : ℕ} {q l′ : List ℕ} → length l ≡ 512 → Copies q l n l′ Copied.NoRoom → Fills l n q l′ 513
-fills-over e (no-room h) = Fills.over (omega arith)
 
 -- ---- what one turn does
 
@@ -147,34 +106,10 @@ lists-grow (Lists.block-ends h) i k = absurd (omega arith)
 lists-grow (Lists.out-of-room h) i k = absurd (omega arith)
 lists-grow (Lists.goes-on h r w l) i k = omega (arith, turn-grows w h, lists-on l)
 
--- ---- the last line
-
-none-is : {l : List ℕ} {n : ℕ} → n ≤ 0 → LastLine l n []
-none-is {l} {n} h = let e : 0 ≡ n = omega arith in subst (λ (k : ℕ). LastLine l k []) e LastLine.no-more
-
-module _ {l : List ℕ} {n : ℕ} {b : List ℕ} {at : ℕ} where
-  pub last-held : {m : Line} {b′ : List ℕ} {r : Written} → 0 < n → HeldAs l n m → Writes (LineOut m) b at b′ r → Writes (LastLine l n) b at b′ r
-  last-held h (HeldAs.held-as g) (Writes.writes t p) = Writes.writes (LastLine.one-more h (HeldLine.held-line g t)) p
-
-  pub last-none : n ≤ 0 → at + 0 ≤ length b → Writes (LastLine l n) b at b (Written.Done at)
-  last-none h k = wrote (none-is h) k (record { is = sym (put-none b at); place = omega arith })
-
-  pub last-left : {f : Refusal} → n ≤ 0 → length b < at + 0 → f ≡ textRefusal 18 0 (pos 0) → Writes (LastLine l n) b at b (Written.Refused f)
-  last-left h k e = left-alone [] (none-is h) refl k e
-
--- ---- what is written for a line, and the header
-
-pub row-is : (d : Date) {j y : ℤ} {w : ℕ} → j ≡ d .jdn → y ≡ d .year → w ≡ weekday (d .jdn) → _≡_ {A = Row} (record { jdn = j; year = y; ordinal = d .ordinal; month = d .month; day = d .day; weekday = w }) (rowOf d)
-row-is d e f g = cc
+-- ---- what is written for a line
 
 pub listed-as : {l : List ℕ} {a : Dated} {b : List ℕ} {at : ℕ} {b′ : List ℕ} {r : Written} → LineAnswer l a → Writes (LineOut (lineOf a)) b at b′ r → Writes (Listed l) b at b′ r
 listed-as q (Writes.writes t p) = Writes.writes (listed q (t .is)) p
-
-pub header-wrote : {t b : List ℕ} {at : ℕ} {b′ : List ℕ} {i : ℕ} → t ≡ header → Copies t b at b′ (Copied.To i) → Writes (λ (u : List ℕ). u ≡ header) b at b′ (Written.Done i)
-header-wrote e (copied h) = Writes.writes e (Puts.done h)
-
-pub header-left : {t b : List ℕ} {at : ℕ} {b′ : List ℕ} {f : Refusal} → t ≡ header → length t ≡ 35 → Copies t b at b′ Copied.NoRoom → f ≡ textRefusal 18 0 (pos 35) → Writes (λ (u : List ℕ). u ≡ header) b at b′ (Written.Refused f)
-header-left {t} e k (no-room h) g = left-alone t e (sym k) h g
 
 -- what was written lies in the buffer
 pub wrote-inside : {P : List ℕ → Type 0} {b : List ℕ} {at : ℕ} {b′ : List ℕ} {i : ℕ} → Writes P b at b′ (Written.Done i) → i ≤ length b′

@@ -1,20 +1,14 @@
 -- The listing as the scope has it: the lines of an input, and what is written for the answer to each. Nothing here reads or writes.
--- What the answer to a line is stands in `Entry` of the crate `entry`.
+-- What the answer to a line is stands in `Entry` of the crate `entry`, and what the columns of an answer are in `Columns` of the crate `columns`.
 -- Assumes nothing.
 use Prim.Native.Nat.{ℕ, _<_}
 use mathlib.Core.List.{List, [], _∷_, _++_}
 use lib.ListN.{length}
-use Rattle.days.specs.DayByDay.{weekday}
-use Rattle.calendar.specs.declared.Date.{Date}
 use Rattle.calendar.specs.declared.Dated.{Dated}
-use Rattle.calendar.specs.declared.Dated.the-variants as Dated′
-use Rattle.names.specs.Table.{bytes}
 use Rattle.bytesearch.specs.Promise.{Without}
 use Rattle.entry.specs.Entry.{LineAnswer}
-use Rattle.linetext.specs.declared.Row.{Row}
-use Rattle.linetext.specs.declared.Line.{Line}
-use Rattle.linetext.specs.declared.Line.the-variants as Line′
 use Rattle.linetext.specs.Line.{newline, Ended}
+use Rattle.columns.specs.Columns.{header, lineOf}
 
 -- ---- the lines of an input: a last line needs no newline
 
@@ -24,14 +18,6 @@ pub data Lines : List ℕ → List (List ℕ) → Type 0 where
   line : {l s : List ℕ} {ls : List (List ℕ)} → Without newline l → Lines s ls → Lines (l ++ (newline ∷ s)) (l ∷ ls)
 
 -- ---- what is written
-
--- the columns of a date: its weekday is that of its day number
-abbrev pub rowOf : Date → Row
-rowOf d = record { jdn = d .jdn; year = d .year; ordinal = d .ordinal; month = d .month; day = d .day; weekday = weekday (d .jdn) }
-
-abbrev pub lineOf : Dated → Line
-lineOf (Dated′.Date d) = Line′.Row (rowOf d)
-lineOf (Dated′.Refused f) = Line′.Refusal f
 
 -- what is written for the line l, with its newline
 pub data Listed (l : List ℕ) : List ℕ → Type 0 where
@@ -43,9 +29,6 @@ pub data AllListed : List (List ℕ) → List ℕ → Type 0 where
   next : {l : List ℕ} {ls : List (List ℕ)} {t u : List ℕ} → Listed l t → AllListed ls u → AllListed (l ∷ ls) (t ++ u)
 
 -- ---- the whole listing: a header, and the lines
-
-unfoldable pub header : List ℕ
-header = bytes "jdn\tyear\tordinal\tmonth\tday\tweekday\n"
 
 pub data Listing (input : List ℕ) : List ℕ → Type 0 where
   listing : {ls : List (List ℕ)} {t : List ℕ} → Lines input ls → AllListed ls t → Listing input (header ++ t)

@@ -4,7 +4,7 @@ use Prim.Native.Nat.{ℕ, _+_}
 use mathlib.Core.Path.{_≡_, refl, sym, _∙_, ap, ap₂, subst}
 use mathlib.Core.List.{List, [], _∷_, _++_}
 use native.Mathlib.Omega.{arith}
-use lib.ListN.{length, take, length-append}
+use lib.ListN.{length, length-append}
 use Rattle.calendar.specs.declared.Dated.{Dated}
 use Rattle.writer.specs.Writing.{put, Writes}
 use Rattle.writer.specs.Theorems.{writes-one}
@@ -13,9 +13,11 @@ use Rattle.entry.specs.Entry.{LineAnswer}
 use Rattle.bytesearch.specs.One.{parted-one, never-parted}
 use Rattle.entry.specs.One.{line-answer-one}
 use Rattle.linetext.specs.Line.{newline, Ended}
-use Rattle.linetext.specs.One.{ended-one}
-use Rattle.listing.specs.Lines.{header, Lines, lineOf, Listed, listed, AllListed, Listing, listing}
-use Rattle.listing.specs.Blocks.{Fills, HeldAnswer, HeldLine, LastLine, Stand, stand, Turn, Lists}
+use Rattle.columns.specs.Columns.{header, lineOf}
+use Rattle.columns.specs.One.{ended-same}
+use Rattle.heldline.specs.One.{fills-one, held-line-one}
+use Rattle.listing.specs.Lines.{Lines, Listed, listed, AllListed, Listing, listing}
+use Rattle.listing.specs.Blocks.{Stand, stand, Turn, Lists}
 
 -- ---- an input has one list of lines
 
@@ -36,9 +38,6 @@ lines-one = lines-same refl
 
 -- ---- and one text
 
-ended-same : {a c : Dated} {t u : List ℕ} → a ≡ c → Ended (lineOf a) t → Ended (lineOf c) u → t ≡ u
-ended-same {u = u} e x y = ended-one x (subst (λ (d : Dated). Ended (lineOf d) u) (sym e) y)
-
 listed-is : {l t : List ℕ} → Listed l t → (a : Dated) × LineAnswer l a × Ended (lineOf a) t
 listed-is (listed {a} q x) = (a, q, x)
 
@@ -57,31 +56,7 @@ pub listing-one : {input t u : List ℕ} → Listing input t → Listing input u
 listing-one (listing {t} p q) (listing {t = u} p′ q′) =
     ap (λ (x : List ℕ). header ++ x) (all-listed-one q (subst (λ (ls : List (List ℕ)). AllListed ls u) (sym (lines-one p p′)) q′))
 
--- ---- what is held of a line
-
-held-answer-one : {l : List ℕ} {n : ℕ} {a c : Dated} → HeldAnswer l n a → HeldAnswer l n c → a ≡ c
-held-answer-one {l} {n} {a} {c} (HeldAnswer.short h p) (HeldAnswer.short k q) = line-answer-one (take n l) a c p q
-held-answer-one (HeldAnswer.short h p) (HeldAnswer.long k) = absurd (omega arith)
-held-answer-one (HeldAnswer.long h) (HeldAnswer.short k q) = absurd (omega arith)
-held-answer-one (HeldAnswer.long h) (HeldAnswer.long k) = refl
-
-held-line-one : {l m : List ℕ} {n k : ℕ} {t u : List ℕ} → l ≡ m → n ≡ k → HeldLine l n t → HeldLine m k u → t ≡ u
-held-line-one {l} {m} {n} {k} e f (HeldLine.held-line p x) (HeldLine.held-line {a = c} q y) =
-    ended-same (held-answer-one p (subst (λ (i : List ℕ). HeldAnswer i n c) (sym e) (subst (λ (i : ℕ). HeldAnswer m i c) (sym f) q))) (x .is) (y .is)
-
-last-line-one : {l : List ℕ} {n : ℕ} {t u : List ℕ} → LastLine l n t → LastLine l n u → t ≡ u
-last-line-one LastLine.no-more LastLine.no-more = refl
-last-line-one LastLine.no-more (LastLine.one-more h q) = absurd (omega arith)
-last-line-one (LastLine.one-more h p) LastLine.no-more = absurd (omega arith)
-last-line-one (LastLine.one-more h p) (LastLine.one-more k q) = held-line-one refl refl p q
-
 -- ---- a block
-
-fills-one : {l : List ℕ} {n : ℕ} {q p : List ℕ} {l₁ l₂ : List ℕ} {n₁ n₂ : ℕ} → q ≡ p → Fills l n q l₁ n₁ → Fills l n p l₂ n₂ → (l₁ ≡ l₂) × (n₁ ≡ n₂)
-fills-one {l} {n} e (Fills.fits h) (Fills.fits k) = (ap (put l n) e, ap (λ (x : List ℕ). n + length x) e)
-fills-one e (Fills.fits h) (Fills.over k) = absurd (omega (arith, ap length e))
-fills-one e (Fills.over h) (Fills.fits k) = absurd (omega (arith, ap length e))
-fills-one e (Fills.over h) (Fills.over k) = (refl, refl)
 
 stands : {at at′ : ℕ} {l l′ : List ℕ} {n n′ : ℕ} {o o′ : List ℕ} {u u′ : ℕ} → at ≡ at′ → l ≡ l′ → n ≡ n′ → o ≡ o′ → u ≡ u′ → stand at l n o u ≡ stand at′ l′ n′ o′ u′
 stands {at} {at′} {l} {l′} {n} {n′} {o} {o′} {u} {u′} a b c d e =
@@ -111,14 +86,7 @@ lists-one (Lists.goes-on i j w l) (Lists.block-ends k) = absurd (omega arith)
 lists-one (Lists.goes-on i j w l) (Lists.out-of-room k) = absurd (omega arith)
 lists-one {b} {f = f} (Lists.goes-on i j w l) (Lists.goes-on i′ j′ w′ l′) = lists-one l (subst (λ (t : Stand). Lists b t f) (sym (turn-one w w′)) l′)
 
--- ---- what is written
+-- ---- what is written for a line
 
-module _ {b b₁ b₂ : List ℕ} {at : ℕ} {r₁ r₂ : Written} where
-  pub list-line-one : {l : List ℕ} → Writes (Listed l) b at b₁ r₁ → Writes (Listed l) b at b₂ r₂ → (b₁ ≡ b₂) × (r₁ ≡ r₂)
-  list-line-one = writes-one (λ t u x y. listed-one x y)
-
-  pub put-header-one : Writes (λ (t : List ℕ). t ≡ header) b at b₁ r₁ → Writes (λ (t : List ℕ). t ≡ header) b at b₂ r₂ → (b₁ ≡ b₂) × (r₁ ≡ r₂)
-  put-header-one = writes-one (λ t u x y. x ∙ sym y)
-
-  pub list-last-one : {l : List ℕ} {n : ℕ} → Writes (LastLine l n) b at b₁ r₁ → Writes (LastLine l n) b at b₂ r₂ → (b₁ ≡ b₂) × (r₁ ≡ r₂)
-  list-last-one = writes-one (λ t u x y. last-line-one x y)
+pub list-line-one : {l : List ℕ} {b b₁ b₂ : List ℕ} {at : ℕ} {r₁ r₂ : Written} → Writes (Listed l) b at b₁ r₁ → Writes (Listed l) b at b₂ r₂ → (b₁ ≡ b₂) × (r₁ ≡ r₂)
+list-line-one = writes-one (λ t u x y. listed-one x y)

@@ -17,8 +17,10 @@ use Rattle.bytesearch.specs.Promise.{Without}
 use Rattle.bytesearch.specs.Laws.{without-both}
 use Rattle.entry.specs.Entry.{LineAnswer}
 use Rattle.linetext.specs.Line.{newline}
-use Rattle.listing.specs.Lines.{header, Lines, Listed, listed, AllListed, Listing, listing}
-use Rattle.listing.specs.Blocks.{Fills, HeldAnswer, HeldLine, LastLine, Stand, stand, Turn, Lists}
+use Rattle.columns.specs.Columns.{header}
+use Rattle.heldline.specs.Held.{Fills, HeldAnswer, HeldLine, LastLine}
+use Rattle.listing.specs.Lines.{Lines, Listed, listed, AllListed, Listing, listing}
+use Rattle.listing.specs.Blocks.{Stand, stand, Turn, Lists}
 use Rattle.listing.specs.One.{listing-one}
 
 -- ---- the lines that end in the bytes s, where p was unfinished before them, and what is unfinished after them

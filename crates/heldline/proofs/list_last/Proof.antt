@@ -1,11 +1,11 @@
--- `listing::list_last` meets its promise.
+-- `heldline::list_last` meets its promise.
 -- Assumes nothing.
-use Rattle.listing.specs.Blocks.{last-held, last-none, last-left}
+use Rattle.heldline.specs.Laws.{last-held, last-none, last-left}
 use borrow.Author.Tests.{leb-true, leb-false}
 use mathlib.Core.Path.{sym, _∙_}
 use borrow.Author.Needs.{needs}
-use Rattle.listing.proofs.list_last.Statement.{statement}
-use Rattle.listing.proofs.list_last.Tie as tie
+use Rattle.heldline.proofs.list_last.Statement.{statement}
+use Rattle.heldline.proofs.list_last.Tie as tie
 
 held-line-requires : tie.Need-held-line-requires
 held-line-requires c κs = search needs

@@ -1,11 +1,11 @@
--- `listing::line_of` meets its contract.
+-- `columns::line_of` meets its contract.
 -- Assumes nothing.
-use Rattle.listing.specs.Lines.{lineOf}
+use Rattle.columns.specs.Columns.{lineOf}
 use mathlib.Core.Path.{sym, _∙_, ap}
 use Rattle.linetext.specs.declared.Line.the-variants as Line′
 use borrow.Author.Needs.{needs}
-use Rattle.listing.proofs.line_of.Statement.{statement}
-use Rattle.listing.proofs.line_of.Tie as tie
+use Rattle.columns.proofs.line_of.Statement.{statement}
+use Rattle.columns.proofs.line_of.Tie as tie
 
 enum-known-answer : tie.Need-enum-known-answer
 enum-known-answer c = search needs

@@ -1,9 +1,9 @@
--- `listing::held_line` meets its contract.
+-- `heldline::held_line` meets its contract.
 -- Assumes nothing.
-use Rattle.listing.specs.Blocks.{HeldAnswer, HeldAs}
+use Rattle.heldline.specs.Held.{HeldAnswer, HeldAs}
 use borrow.Author.Needs.{needs}
-use Rattle.listing.proofs.held_line.Statement.{statement}
-use Rattle.listing.proofs.held_line.Tie as tie
+use Rattle.heldline.proofs.held_line.Statement.{statement}
+use Rattle.heldline.proofs.held_line.Tie as tie
 
 front-answer-requires : tie.Need-front-answer-requires
 front-answer-requires c κs = search needs

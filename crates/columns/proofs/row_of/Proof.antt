@@ -1,12 +1,12 @@
--- `listing::row_of` meets its contract: each column is the number of that name, and the weekday that of the day number.
+-- `columns::row_of` meets its contract: each column is the number of that name, and the weekday that of the day number.
 -- Assumes nothing.
-use Rattle.listing.specs.Blocks.{row-is}
+use Rattle.columns.specs.Laws.{row-is}
 use Rattle.days.specs.DayByDay.{weekday}
 use mathlib.Core.Path.{ap, _∙_}
 use mir.Facts.{toZ-ofZ}
 use borrow.Author.Needs.{needs, sfits-of}
-use Rattle.listing.proofs.row_of.Statement.{statement}
-use Rattle.listing.proofs.row_of.Tie as tie
+use Rattle.columns.proofs.row_of.Statement.{statement}
+use Rattle.columns.proofs.row_of.Tie as tie
 
 for-jdn-requires : tie.Need-for-jdn-requires
 for-jdn-requires c κs = search needs

@@ -1,12 +1,12 @@
--- `listing::put_header` meets its promise: its bytes are those of the header.
+-- `columns::put_header` meets its promise: its bytes are those of the header.
 -- Assumes nothing.
-use Rattle.listing.specs.Blocks.{header-wrote, header-left}
+use Rattle.columns.specs.Laws.{header-wrote, header-left}
 use mathlib.Core.Path.{refl}
-use Rattle.listing.specs.Lines.{header}
+use Rattle.columns.specs.Columns.{header}
 use Rattle.names.specs.Table.{bytes}
 use borrow.Author.Needs.{needs}
-use Rattle.listing.proofs.put_header.Statement.{statement}
-use Rattle.listing.proofs.put_header.Tie as tie
+use Rattle.columns.proofs.put_header.Statement.{statement}
+use Rattle.columns.proofs.put_header.Tie as tie
 
 slice-aggregate-copy-text : tie.Need-slice-aggregate-copy-text
 slice-aggregate-copy-text c = search needs

@@ -1,9 +1,9 @@
--- `listing::fill` meets its contract: the bytes fit, and stand after those that were held; or the line is too long.
+-- `heldline::fill` meets its contract: the bytes fit, and stand after those that were held; or the line is too long.
 -- Assumes nothing.
-use Rattle.listing.specs.Blocks.{fills-to, fills-over}
+use Rattle.heldline.specs.Laws.{fills-to, fills-over}
 use borrow.Author.Needs.{needs}
-use Rattle.listing.proofs.fill.Statement.{statement}
-use Rattle.listing.proofs.fill.Tie as tie
+use Rattle.heldline.proofs.fill.Statement.{statement}
+use Rattle.heldline.proofs.fill.Tie as tie
 
 copy-text-requires : tie.Need-copy-text-requires
 copy-text-requires c κs = search needs

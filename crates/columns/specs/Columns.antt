@@ -1,0 +1,24 @@
+-- The columns of the listing, as the scope has them: the numbers that stand in the line of an answer, and the header over them.
+-- Assumes nothing.
+use Prim.Native.Nat.{ℕ}
+use mathlib.Core.List.{List}
+use Rattle.days.specs.DayByDay.{weekday}
+use Rattle.calendar.specs.declared.Date.{Date}
+use Rattle.calendar.specs.declared.Dated.{Dated}
+use Rattle.calendar.specs.declared.Dated.the-variants as Dated′
+use Rattle.names.specs.Table.{bytes}
+use Rattle.linetext.specs.declared.Row.{Row}
+use Rattle.linetext.specs.declared.Line.{Line}
+use Rattle.linetext.specs.declared.Line.the-variants as Line′
+
+-- the columns of a date: its weekday is that of its day number
+abbrev pub rowOf : Date → Row
+rowOf d = record { jdn = d .jdn; year = d .year; ordinal = d .ordinal; month = d .month; day = d .day; weekday = weekday (d .jdn) }
+
+-- a refusal has its own
+abbrev pub lineOf : Dated → Line
+lineOf (Dated′.Date d) = Line′.Row (rowOf d)
+lineOf (Dated′.Refused f) = Line′.Refusal f
+
+unfoldable pub header : List ℕ
+header = bytes "jdn\tyear\tordinal\tmonth\tday\tweekday\n"

@@ -1,0 +1,27 @@
+-- Why a line and the header are what was promised.
+-- Assumes nothing.
+use Prim.Native.Nat.{ℕ}
+use mathlib.Core.Path.{_≡_, sym}
+use mathlib.Core.List.{List}
+use lib.ListN.{length}
+use lib.IntN.{ℤ, pos}
+use Rattle.days.specs.DayByDay.{weekday}
+use Rattle.calendar.specs.declared.Date.{Date}
+use Rattle.writer.specs.Writing.{Puts, Writes}
+use Rattle.writer.specs.Puts.{left-alone}
+use Rattle.writer.specs.declared.Written.{Written}
+use Rattle.refusals.specs.Refusals.{refusal as textRefusal}
+use Rattle.refusals.specs.declared.Refusal.{Refusal}
+use Rattle.linetext.specs.Line.{Copies, copied, no-room}
+use Rattle.linetext.specs.declared.Row.{Row}
+use Rattle.linetext.specs.declared.Copied.{Copied}
+use Rattle.columns.specs.Columns.{header, rowOf}
+
+pub row-is : (d : Date) {j y : ℤ} {w : ℕ} → j ≡ d .jdn → y ≡ d .year → w ≡ weekday (d .jdn) → _≡_ {A = Row} (record { jdn = j; year = y; ordinal = d .ordinal; month = d .month; day = d .day; weekday = w }) (rowOf d)
+row-is d e f g = cc
+
+pub header-wrote : {t b : List ℕ} {at : ℕ} {b′ : List ℕ} {i : ℕ} → t ≡ header → Copies t b at b′ (Copied.To i) → Writes (λ (u : List ℕ). u ≡ header) b at b′ (Written.Done i)
+header-wrote e (copied h) = Writes.writes e (Puts.done h)
+
+pub header-left : {t b : List ℕ} {at : ℕ} {b′ : List ℕ} {f : Refusal} → t ≡ header → length t ≡ 35 → Copies t b at b′ Copied.NoRoom → f ≡ textRefusal 18 0 (pos 35) → Writes (λ (u : List ℕ). u ≡ header) b at b′ (Written.Refused f)
+header-left {t} e k (no-room h) g = left-alone t e (sym k) h g
