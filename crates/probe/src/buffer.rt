@@ -63,20 +63,12 @@ fn lend_for(out: &mut [u8], at: usize, size: u32, what: u8, answer: Dated) -> Re
     }
 }
 
-fn rest(out: &mut [u8], at: usize, line: &[u8], from: usize) -> usize {
-    if from <= line.len() {
-        let end = line.len();
-        return put::word(out, at, &line[from..end]);
-    }
-    at
-}
-
 // The line from its text on, the text as the call leaves it, and what the call answers.
 pub fn answer(line: &[u8], out: &mut [u8], at: usize) -> usize {
     let size = query::after_tab(line, 0);
     let from = query::after_tab(line, size);
     let date = date_of(line, query::after_tab(line, from));
-    let end = rest(out, at, line, from);
+    let end = put::word(out, at, query::tail(line, from));
     let n = query::number_at(line, size);
     let r = lend_for(out, at, n, query::byte_at(line, 1), date);
     put::reply(out, end, r)

@@ -14,7 +14,6 @@ use calendar::Dated;
 use calendar::ReformDate;
 use calendar::ReformDay;
 use calendar::Reformed;
-use query::Asked;
 use query::Head;
 use query::Numbers;
 use reply::Reply;
@@ -126,24 +125,6 @@ fn unix(answer: Timed) -> Reply {
     }
 }
 
-// ---- Queries with texts
-
-fn parse(calendar: Calendar, line: &[u8], from: usize) -> Reply {
-    if from <= line.len() {
-        let end = line.len();
-        return reply::dated(dateparse::parse_date(calendar, &line[from..end]));
-    }
-    reply::unreadable()
-}
-
-fn named(line: &[u8], from: usize) -> Reformed {
-    if from <= line.len() {
-        let end = line.len();
-        return ncal::named(&line[from..end]);
-    }
-    ncal::named(line)
-}
-
 // ---- The query of a line
 
 // The second calendar of a query stands after its date.
@@ -180,11 +161,10 @@ fn of_date(line: &[u8], date: Date, at: usize) -> Reply {
     }
 }
 
-fn about_date(line: &[u8], asked: Asked) -> Reply {
-    let answer = asked.answer;
+fn about_date(line: &[u8], answer: Dated, at: usize) -> Reply {
     match answer {
         Dated::Refused(why) => reply::refused(why),
-        Dated::Date(date) => of_date(line, date, asked.next),
+        Dated::Date(date) => of_date(line, date, at),
     }
 }
 
@@ -231,13 +211,15 @@ fn with_calendar(calendar: Calendar, line: &[u8], from: usize) -> Reply {
     let letter = query::byte_at(line, 0);
     let second = query::byte_at(line, 1);
     if is_about_date(letter, second) {
-        return about_date(line, query::date_at(calendar, line, from));
+        let asked = query::date_at(calendar, line, from);
+        let answer = asked.answer;
+        return about_date(line, answer, asked.next);
     }
     if letter == b'u' {
         return unix(unixtime::at_unix_time(calendar, query::long_at(line, from)));
     }
     if second == b'a' && letter == b'p' {
-        return parse(calendar, line, from);
+        return reply::dated(dateparse::parse_date(calendar, query::tail(line, from)));
     }
     about_years(letter, second, calendar, query::numbers_at(line, from))
 }
@@ -279,7 +261,7 @@ fn answer_to(line: &[u8]) -> Reply {
         return of_day(letter, query::signed_at(line, from));
     }
     match letter {
-        b'n' => name(named(line, from)),
+        b'n' => name(ncal::named(query::tail(line, from))),
         b't' => with_t(second, line, from),
         b'a' => text::at(line, from),
         _ => of_calendar(line, from),
@@ -288,16 +270,8 @@ fn answer_to(line: &[u8]) -> Reply {
 
 // ---- Lines and blocks
 
-// What is kept from byte to byte: the bytes of the line so far, and the bytes of the output that are not written yet.
-struct State {
-    line: usize,
-    out: usize,
-}
-
 fn flush(out: &[u8], n: usize) {
-    if n <= out.len() {
-        io::write_all(1, &out[0..n]);
-    }
+    io::write_all(1, query::front(out, n));
 }
 
 // An answer has at most as many bytes as a line.
@@ -318,69 +292,57 @@ fn answer(line: &[u8], out: &mut [u8], at: usize) -> usize {
     }
 }
 
-// The newline of a line that begins with `+` belongs to its query: a byte of the line is left out, and one comes to it.
-fn shift(line: &[u8]) -> usize {
+// The newline of a line that begins with `+` belongs to its query, and the `+` does not.
+fn query_of(line: &[u8]) -> &[u8] {
     if query::byte_at(line, 0) == b'+' {
-        return 1;
+        return query::tail(line, 1);
     }
-    0
+    query::front(line, std::num::wrapping_sub_usize(line.len(), 1))
 }
 
-fn answer_part(line: &[u8], from: usize, to: usize, out: &mut [u8], at: usize) -> usize {
-    if from <= to && to <= line.len() {
-        let end = answer(&line[from..to], out, at);
+// The answer to the n bytes of a line, where the last of them ends it.
+fn answer_line(line: &[u8], n: usize, last: u8, out: &mut [u8], used: usize) -> usize {
+    if last == 10 {
+        let at = room(out, used);
+        let end = answer(query_of(query::front(line, n)), out, at);
         return put::line_end(out, end);
     }
-    at
-}
-
-// No line has 4096 bytes.
-fn answer_line(line: &[u8], n: usize, out: &mut [u8], used: usize) -> usize {
-    let from = shift(line);
-    let at = room(out, used);
-    answer_part(line, from, n % 4096 + from % 2, out, at)
+    used
 }
 
 // Of a line above 2048 bytes the rest is left out.
-fn keep(line: &mut [u8], n: usize, b: u8) {
+fn kept(line: &mut [u8], n: usize, b: u8) -> usize {
     if n < line.len() {
         line[n] = b;
+        return n + 1;
     }
+    n
 }
 
-fn one(b: u8, line: &mut [u8], out: &mut [u8], n: usize, used: usize) -> State {
-    keep(line, n, b);
-    if b == 10 {
-        let end = answer_line(line, n, out, used);
-        return State { line: 0, out: end };
+fn held_after(n: usize, last: u8) -> usize {
+    if last == 10 {
+        return 0;
     }
-    if n < line.len() {
-        return State {
-            line: n + 1,
-            out: used,
-        };
-    }
-    State { line: n, out: used }
+    n
 }
 
-fn feed(block: &[u8], line: &mut [u8], out: &mut [u8], start: State) -> State {
-    let mut s = start;
+// Tells how many bytes of the next line are kept. The answers of a block are written before the next one is read, so that both sides can be
+// run by one program over pipes.
+fn feed(block: &[u8], line: &mut [u8], held: usize, out: &mut [u8]) -> usize {
+    let mut n = held;
+    let mut used: usize = 0;
     let mut i: usize = 0;
     while i < block.len() {
-        s = one(block[i], line, out, s.line, s.out);
+        let b = block[i];
+        n = kept(line, n, b);
+        used = answer_line(line, n, b, out, used);
+        n = held_after(n, b);
         i += 1;
     }
-    s
+    flush(out, used);
+    n
 }
 
-fn feed_front(block: &[u8], n: usize, line: &mut [u8], out: &mut [u8], start: State) -> State {
-    if n <= block.len() {
-        return feed(&block[0..n], line, out, start);
-    }
-    start
-}
-
-// The answers of a block are written before the next one is read, so that both sides can be run by one program over pipes.
 fn main() {
     let mut block = io::large_buffer();
     let mut out = io::large_buffer();
@@ -393,15 +355,7 @@ fn main() {
             break;
         }
         let count = io::count(got, &block);
-        let s = feed_front(
-            &block,
-            count,
-            &mut line,
-            &mut out,
-            State { line: n, out: 0 },
-        );
-        flush(&out, s.out);
-        n = s.line;
+        n = feed(query::front(&block, count), &mut line, n, &mut out);
         turns -= 1;
     }
 }

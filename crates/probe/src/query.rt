@@ -49,6 +49,21 @@ pub fn after_tab(line: &[u8], from: usize) -> usize {
     line.len()
 }
 
+// The bytes up to a place, and those from a place on.
+pub fn front(line: &[u8], n: usize) -> &[u8] {
+    if n <= line.len() {
+        return &line[0..n];
+    }
+    line
+}
+
+pub fn tail(line: &[u8], from: usize) -> &[u8] {
+    if from <= line.len() {
+        return &line[from..];
+    }
+    line
+}
+
 pub fn signed_at(line: &[u8], at: usize) -> i32 {
     match numbertext::signed_at(line, at) {
         SignedNumber::Value(x, _) => x,

@@ -99,14 +99,9 @@ fn place_of(x: i32) -> usize {
 
 pub fn at(line: &[u8], from: usize) -> Reply {
     let place = query::after_tab(line, from);
-    let text = query::after_tab(line, place);
-    if text <= line.len() {
-        let what = query::byte_at(line, from);
-        let at = place_of(query::signed_at(line, place));
-        let end = line.len();
-        return read(what, &line[text..end], at);
-    }
-    reply::unreadable()
+    let text = query::tail(line, query::after_tab(line, place));
+    let at = place_of(query::signed_at(line, place));
+    read(query::byte_at(line, from), text, at)
 }
 
 // ---- A whole text
@@ -136,9 +131,5 @@ fn said(answer: Text) -> Reply {
 }
 
 pub fn whole_text(line: &[u8], from: usize) -> Reply {
-    if from <= line.len() {
-        let end = line.len();
-        return said(usualtext::read_date(&line[from..end]));
-    }
-    reply::unreadable()
+    said(usualtext::read_date(query::tail(line, from)))
 }

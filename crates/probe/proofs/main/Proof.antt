@@ -32,23 +32,20 @@ slice-aggregate-count c = search needs
 count-requires : tie.Need-count-requires Inv-loop μ-loop
 count-requires c κs = search needs
 
-slice-aggregate-feed-front : tie.Need-slice-aggregate-feed-front Inv-loop μ-loop
-slice-aggregate-feed-front c = search needs
+slice-aggregate-front : tie.Need-slice-aggregate-front Inv-loop μ-loop
+slice-aggregate-front c = search needs
 
-slice-aggregate-feed-front-2 : tie.Need-slice-aggregate-feed-front-2 Inv-loop μ-loop
-slice-aggregate-feed-front-2 c = search needs
+front-requires : tie.Need-front-requires Inv-loop μ-loop
+front-requires c κs = search needs
 
-slice-aggregate-feed-front-3 : tie.Need-slice-aggregate-feed-front-3 Inv-loop μ-loop
-slice-aggregate-feed-front-3 c = search needs
+slice-aggregate-feed : tie.Need-slice-aggregate-feed Inv-loop μ-loop
+slice-aggregate-feed c = search needs
 
-feed-front-requires : tie.Need-feed-front-requires Inv-loop μ-loop
-feed-front-requires c κs = search needs
+slice-aggregate-feed-2 : tie.Need-slice-aggregate-feed-2 Inv-loop μ-loop
+slice-aggregate-feed-2 c = search needs
 
-slice-aggregate-flush : tie.Need-slice-aggregate-flush Inv-loop μ-loop
-slice-aggregate-flush c = search needs
-
-flush-requires : tie.Need-flush-requires Inv-loop μ-loop
-flush-requires c κs = search needs
+feed-requires : tie.Need-feed-requires Inv-loop μ-loop
+feed-requires c κs = search needs
 
 sub-turns : tie.Need-sub-turns Inv-loop μ-loop
 sub-turns c = search needs
@@ -78,12 +75,11 @@ main-spec =
     read-requires
     slice-aggregate-count
     count-requires
-    slice-aggregate-feed-front
-    slice-aggregate-feed-front-2
-    slice-aggregate-feed-front-3
-    feed-front-requires
-    slice-aggregate-flush
-    flush-requires
+    slice-aggregate-front
+    front-requires
+    slice-aggregate-feed
+    slice-aggregate-feed-2
+    feed-requires
     sub-turns
     loop-less
     loop-again
