@@ -4,19 +4,12 @@
 ghost use mathlib.Core.Path.{_≡_};
 ghost use Prim.Native.Nat.{_<_};
 ghost use Rattle.days.specs.DayByDay.{julian, gregorian, julianLeap, gregorianLeap, labelOf};
+ghost use Rattle.days.specs.Year.{yearLength};
 ghost use Rattle.days.specs.Starts.{Spot};
 ghost use Rattle.days.specs.Julian as J;
 ghost use Rattle.days.specs.Gregorian as G;
 ghost use Rattle.inner.specs.Promise.{YearAndOrdinal, DayOfOrdinal};
 ghost use Rattle.inner.specs.Natural.{heldDay, heldYear, VirtualPoint, Lowers, OrdinalNumber};
-pub use monthdays::DayOrdinal;
-pub use monthdays::MonthAndDay;
-pub use monthdays::MonthDay;
-pub use monthdays::days_in_month;
-pub use monthdays::days_in_year;
-pub use monthdays::md2ordinal;
-pub use monthdays::month_day;
-pub use monthdays::ordinal2md;
 use whole::lowered;
 use whole::raised;
 
@@ -51,6 +44,12 @@ pub fn is_gregorian_leap(year: u32) -> bool
         return y % 4 == 0;
     }
     y % 16 == 0
+}
+
+pub fn days_in_year(leap: bool) -> u32
+    ensures { λ r. ⌜ r ≡ yearLength leap ⌝ }
+{
+    if leap { 366 } else { 365 }
 }
 
 // ---- From a day number to its year and ordinal

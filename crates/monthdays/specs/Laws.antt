@@ -138,6 +138,23 @@ module _ (leap : Bool) (o t m : ℕ) (f : 1 ≤ o) (e : t ≡ toThirty leap o) (
       room true false q = omega arith
       room false false q = omega arith
 
+-- the months go past the twelfth exactly where the places go past the year
+pub month-few : {leap : Bool} {o m d : ℕ} → 1 ≤ o → o ≤ yearLength leap → MonthDayAt leap o m d → m ≤ 12
+month-few {leap} {o} f t p = rw (p .month-is) (month-at leap o f t .1)
+
+pub year-few : (leap : Bool) {o m d : ℕ} → MonthDayAt leap o m d → m ≤ 12 → o ≤ yearLength leap
+year-few leap {o} {m} p h = ⊎-elim (λ g. absurd (past leap g (p .month-is))) (λ g. g) (lt-or-ge (yearLength leap) o)
+  where
+    past : (b : Bool) → yearLength b < o → m ≡ monthAt b o → ⊥
+    past true g e =
+        let q : toThirty true o ≡ 1 = simp (lt-ltb 60 o (omega arith)) in
+        let f : m ≡ (12 * (o + 1) + 361) / 367 = rw q at e in
+        omega arith
+    past false g e =
+        let q : toThirty false o ≡ 2 = simp (lt-ltb 59 o (omega arith)) in
+        let f : m ≡ (12 * (o + 2) + 361) / 367 = rw q at e in
+        omega arith
+
 -- within a year it is the month, and the day of the month
 pub month-day-in : {leap : Bool} {o m d : ℕ} → 1 ≤ o → o ≤ yearLength leap → MonthDayAt leap o m d → Month m × (1 ≤ d) × (d ≤ monthLength leap m)
 month-day-in {leap} {o} {m} {d} f t p =

@@ -1,17 +1,10 @@
-// The days of a year and of its months: ordinal to month and day and back.
+// The days of the months of a year: ordinal to month and day and back.
 
 ghost use mathlib.Core.Path.{_≡_};
 ghost use Prim.Native.Nat.{_+_, _≤_};
 ghost use Rattle.days.specs.DayByDay.{monthLength};
-ghost use Rattle.days.specs.Year.{yearLength};
 ghost use Rattle.days.specs.Numbers.{daysBefore, toThirty};
 ghost use Rattle.monthdays.specs.Promise.{MonthDayOf, OrdinalOf, Month, MonthDayAt};
-
-pub fn days_in_year(leap: bool) -> u32
-    ensures { λ r. ⌜ r ≡ yearLength leap ⌝ }
-{
-    if leap { 366 } else { 365 }
-}
 
 pub enum MonthDay {
     At(u32, u32),
@@ -30,10 +23,10 @@ pub fn ordinal2md(leap: bool, ordinal: u32) -> MonthDay
     if ordinal < 1 {
         return MonthDay::Nothing;
     }
-    if days_in_year(leap) < ordinal {
+    let at = month_day(leap, ordinal - 1);
+    if 12 < at.month {
         return MonthDay::Nothing;
     }
-    let at = month_day(leap, ordinal - 1);
     MonthDay::At(at.month, at.day)
 }
 
