@@ -40,11 +40,12 @@ use Rattle.calendar.specs.declared.Reformed.the-variants as Reformed′
 use Rattle.calendar.specs.declared.Dated.{Dated}
 use Rattle.calendar.specs.declared.Dated.the-variants as Dated′
 use Rattle.calendar.specs.declared.Switch.the-variants as Switch′
-use Rattle.changeover.specs.declared.Spot as S
+use Rattle.inner.specs.declared.Spot as S
+use Rattle.inner.specs.Spots.{At, spot, at-number, at-from, at-few}
 use Rattle.changeover.specs.declared.Found.the-variants as Found′
-use Rattle.changeover.specs.Spots.{YearSpan, At, LabelledAt, old, new, spot, Finds, finds-old, finds-new, finds-gap, finds-none}
-use Rattle.changeover.specs.Laws.{starts-close, at-number, at-from, at-few, ordinal-sum}
-use Rattle.labels.specs.Labels.{OnSpot}
+use Rattle.changeover.specs.Spots.{YearSpan, Finds, finds-old, finds-new, finds-gap, finds-none}
+use Rattle.changeover.specs.Laws.{starts-close, ordinal-sum}
+use Rattle.labels.specs.Labels.{LabelledAt, old, new, OnSpot}
 use Rattle.neighbours.specs.declared.Neighbour.the-variants as Neighbour′
 use Rattle.neighbours.specs.Neighbours.{IsNeighbour, there, outside}
 use Rattle.refusals.specs.declared.Refusal.{Refusal}

@@ -13,7 +13,7 @@ use Rattle.calendar.specs.declared.Calendar.{Calendar}
 use Rattle.calendar.specs.declared.Date.{Date}
 use Rattle.calendar.specs.declared.Switch.{Switch}
 use Rattle.calendar.specs.declared.Switch.the-variants as Switch′
-use Rattle.changeover.specs.declared.Spot.{Spot}
+use Rattle.inner.specs.declared.Spot.{Spot}
 use Rattle.calendar.specs.declared.ReformDate.{ReformDate}
 use Rattle.calendar.specs.declared.ReformDate.the-variants as ReformDate′
 use Rattle.calendar.specs.Calendars.{meant, Accepted, Skipped, sameStyle}

@@ -14,9 +14,9 @@ use crate::Calendar;
 use crate::Date;
 use crate::Dated;
 use changeover::Found;
-use changeover::Spot;
 use inner::DayNumber;
-use inner::DayOrdinal;
+use inner::Spot;
+use monthdays::DayOrdinal;
 
 // ---- From a day to its record
 
@@ -88,7 +88,7 @@ fn julian_month(year: u32, month: u32) -> u64
     requires { ⌜ Month month ⌝ }
     ensures { λ r. ⌜ r ≡ julianMonth (heldYear year) month ⌝ }
 {
-    match inner::md2ordinal(inner::is_julian_leap(year), month, 1) {
+    match monthdays::md2ordinal(inner::is_julian_leap(year), month, 1) {
         DayOrdinal::At(ordinal) => inner::julian_start(year) + ordinal as u64 - 1,
         DayOrdinal::Nothing => 0,
     }

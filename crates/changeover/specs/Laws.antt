@@ -27,26 +27,11 @@ use Rattle.monthdays.specs.declared.DayOrdinal.the-variants as DayOrdinal′
 use Rattle.changeover.specs.declared.MonthSpan.{MonthSpan}
 use Rattle.changeover.specs.declared.Spanned.the-variants as Spanned′
 use Rattle.changeover.specs.declared.PlainMonth.{PlainMonth}
-use Rattle.changeover.specs.declared.Spot as S
+use Rattle.inner.specs.declared.Spot as S
+use Rattle.inner.specs.Spots.{At, spot, at-number}
 use Rattle.changeover.specs.declared.Found.the-variants as Found′
 use Rattle.changeover.specs.declared.Read.the-variants as Read′
-use Rattle.changeover.specs.Spots.{YearSpan, MonthIn, monthSpan, SpansMonth, spans-month, At, spot, ThereIn, Reads, reads-at, reads-none, ReadsBelow, below-at, below-none, Finds, finds-old, finds-new, finds-gap, finds-none}
-
--- ---- A day in its reckoning
-module _ {leapAt : ℕ → Bool} {start : ℕ → ℕ} {k y m d o : ℕ} (a : At leapAt start k y m d o) where
-  pub at-number : number leapAt start y m d ≡ k
-  at-number = sum (start y) (daysBefore (leapAt y) m) (a .ordinal-is) (a .adds) (a .there .2)
-    where
-      sum : (s b : ℕ) → b + d ≡ o → s + o ≡ k + 1 → 1 ≤ d → s + b + d - 1 ≡ k
-      sum s b e f h = omega arith
-
-  pub at-from : 1 ≤ o
-  at-from = omega (arith, a .ordinal-is, a .there .2)
-
-  pub at-few : o ≤ 366
-  at-few =
-      let t : There leapAt y m d = a .there in
-      omega (arith, a .ordinal-is, ordinal-within (leapAt y) m (daysBefore (leapAt y) m) d (t .0) (t .1) (t .3) (before (leapAt y) m (t .0) (t .1)), year-most (leapAt y))
+use Rattle.changeover.specs.Spots.{YearSpan, MonthIn, monthSpan, SpansMonth, spans-month, ThereIn, Reads, reads-at, reads-none, ReadsBelow, below-at, below-none, Finds, finds-old, finds-new, finds-gap, finds-none}
 
 -- ---- The day of a label
 module _ (leapAt : ℕ → Bool) (start : ℕ → ℕ) (y m d : ℕ) {b : Bool} {t : ℕ} (h : HeldYear (heldYear y)) (e : b ≡ leapAt (heldYear y)) (f : t ≡ start (heldYear y)) where

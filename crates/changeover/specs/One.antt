@@ -11,8 +11,8 @@ use Rattle.inner.specs.Natural.{heldYear}
 use Rattle.changeover.specs.declared.Spanned.{Spanned}
 use Rattle.changeover.specs.declared.Found.{Found}
 use Rattle.changeover.specs.declared.Found.the-variants as Found′
-use Rattle.changeover.specs.Spots.{YearSpan, SpansMonth, spans-month, no-month, At, spot, NoneBelow, Finds, finds-old, finds-new, finds-gap, finds-none}
-use Rattle.changeover.specs.Laws.{at-number}
+use Rattle.inner.specs.Spots.{At, spot, at-number}
+use Rattle.changeover.specs.Spots.{YearSpan, SpansMonth, spans-month, no-month, NoneBelow, Finds, finds-old, finds-new, finds-gap, finds-none}
 
 pub year-span-one : (r y : ℕ) {a b i j : ℕ} → YearSpan r y a b → YearSpan r y i j → (a ≡ i) × (b ≡ j)
 year-span-one r y s t = (s .first-is ∙ sym (t .first-is), s .past-is ∙ sym (t .past-is))

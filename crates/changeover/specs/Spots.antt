@@ -6,18 +6,17 @@ use Prim.Native.Nat.{ℕ, _+_, _-_, _≤_, _<_}
 use lib.IntN.{pos}
 use Rattle.refusals.specs.Refusals.{refusal}
 use Rattle.days.specs.DayByDay.{monthLength}
-use Rattle.days.specs.Held.{HeldYear}
 use Rattle.days.specs.Julian as J
 use Rattle.days.specs.Gregorian as G
 use Rattle.days.specs.Numbers.{There, number, daysBefore}
 use Rattle.days.specs.Runs.{top, yearFirst, gregorianMonth, monthFirst, monthPast}
 use Rattle.inner.specs.Natural.{heldYear}
+use Rattle.inner.specs.Spots.{At, spot}
 use Rattle.monthdays.specs.Promise.{Month}
 use Rattle.changeover.specs.declared.MonthSpan.{MonthSpan}
 use Rattle.changeover.specs.declared.Spanned.{Spanned}
 use Rattle.changeover.specs.declared.Spanned.the-variants as Spanned′
 use Rattle.changeover.specs.declared.PlainMonth.{PlainMonth}
-use Rattle.changeover.specs.declared.Spot.{Spot}
 use Rattle.changeover.specs.declared.Found.{Found}
 use Rattle.changeover.specs.declared.Found.the-variants as Found′
 use Rattle.changeover.specs.declared.Read.{Read}
@@ -43,21 +42,6 @@ monthSpan r y m = record { switch = r; first = monthFirst r y m; past = monthPas
 pub data SpansMonth (r y m : ℕ) : Spanned → Type 0 where
   spans-month : Month m → SpansMonth r y m (Spanned′.Month (monthSpan r y m))
   no-month : ¬ Month m → SpansMonth r y m (Spanned′.Refused (refusal 3 0 (pos m)))
-
--- in one reckoning day k is the day d of the month m of the year y, and the o-th of that year
-pub record At (leapAt : ℕ → Bool) (start : ℕ → ℕ) (k y m d o : ℕ) : Type 0 where
-  pub held : HeldYear y
-  pub there : There leapAt y m d
-  pub ordinal-is : daysBefore (leapAt y) m + d ≡ o
-  pub adds : start y + o ≡ k + 1
-
--- in the reckoning that labels it
-pub data LabelledAt (r k y m d o : ℕ) : Type 0 where
-  old : k < r → At J.leapAt J.start k y m d o → LabelledAt r k y m d o
-  new : r ≤ k → At G.leapAt G.start k y m d o → LabelledAt r k y m d o
-
-abbrev pub spot : ℕ → ℕ → ℕ → ℕ → ℕ → Spot
-spot k y o m d = record { held = k; year = y; ordinal = o; month = m; day = d }
 
 -- day d of month m is there, in a year that is leap or not
 abbrev pub ThereIn : Bool → ℕ → ℕ → Type 0

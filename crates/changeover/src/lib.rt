@@ -7,7 +7,8 @@ ghost use Rattle.days.specs.Runs.{firstDay};
 ghost use Rattle.inner.specs.Natural.{heldYear};
 ghost use Rattle.monthdays.specs.Promise.{Month};
 ghost use Rattle.changeover.specs.Spots.{Reads, ReadsBelow, Finds, YearSpan, MonthIn, SpansMonth};
-use inner::DayOrdinal;
+use inner::Spot;
+use monthdays::DayOrdinal;
 use refusals::Refusal;
 use refusals::refusal_with;
 
@@ -104,8 +105,8 @@ fn month_in(leap: bool, start: u64, month: u32) -> PlainMonth
     requires { ⌜ Month month × (start < 2_000_000_000_000) ⌝ }
     ensures { λ r. ⌜ MonthIn leap start month r ⌝ }
 {
-    let days = inner::days_in_month(leap, month);
-    match inner::md2ordinal(leap, month, 1) {
+    let days = monthdays::days_in_month(leap, month);
+    match monthdays::md2ordinal(leap, month, 1) {
         DayOrdinal::At(ordinal) => PlainMonth {
             first: start + ordinal as u64 - 1,
             days: days,
@@ -118,15 +119,6 @@ fn month_in(leap: bool, start: u64, month: u32) -> PlainMonth
 }
 
 // ---- The day of a label
-
-// A held day, with its raised year, and the ordinal, the month and the day of the month that it has in its own reckoning.
-pub struct Spot {
-    pub held: u64,
-    pub year: u32,
-    pub ordinal: u32,
-    pub month: u32,
-    pub day: u32,
-}
 
 pub enum Found {
     At(Spot),
@@ -190,7 +182,7 @@ fn reading(leap: bool, start: u64, year: u32, month: u32, day: u32) -> Read
     requires { ⌜ start < 2_000_000_000_000 ⌝ }
     ensures { λ r. ⌜ Reads leap start year month day r ⌝ }
 {
-    match inner::md2ordinal(leap, month, day) {
+    match monthdays::md2ordinal(leap, month, day) {
         DayOrdinal::Nothing => Read::Nothing,
         DayOrdinal::At(ordinal) => Read::At(Spot {
             held: start + ordinal as u64 - 1,

@@ -5,7 +5,7 @@ ghost use mathlib.Core.Path.{_≡_};
 ghost use Prim.Native.Nat.{_<_};
 ghost use Rattle.days.specs.DayByDay.{julian, gregorian, julianLeap, gregorianLeap, labelOf};
 ghost use Rattle.days.specs.Year.{yearLength};
-ghost use Rattle.days.specs.Starts.{Spot};
+ghost use Rattle.days.specs.Starts.{Spot as InYear};
 ghost use Rattle.days.specs.Julian as J;
 ghost use Rattle.days.specs.Gregorian as G;
 ghost use Rattle.inner.specs.Promise.{YearAndOrdinal, DayOfOrdinal};
@@ -86,7 +86,7 @@ pub struct Place {
 }
 
 pub fn julian_place(day: u32) -> Place
-    ensures { λ r. ⌜ Spot J.leapAt J.start (heldDay day) (heldYear (r .year)) (r .ordinal) ⌝ }
+    ensures { λ r. ⌜ InYear J.leapAt J.start (heldDay day) (heldYear (r .year)) (r .ordinal) ⌝ }
 {
     let place = decompose_julian(day as u64 + 782_219_326_294);
     Place {
@@ -98,7 +98,7 @@ pub fn julian_place(day: u32) -> Place
 // Counted from the first day of a cycle of 400 years, with a virtual leap day at the end of each year that is leap by the Julian rule alone,
 // the Julian rule finds year and ordinal.
 pub fn gregorian_place(day: u32) -> Place
-    ensures { λ r. ⌜ Spot G.leapAt G.start (heldDay day) (heldYear (r .year)) (r .ordinal) ⌝ }
+    ensures { λ r. ⌜ InYear G.leapAt G.start (heldDay day) (heldYear (r .year)) (r .ordinal) ⌝ }
 {
     let days = day as u64 + 782_203_220_162;
     let cycles = days / 146_097;
@@ -131,7 +131,7 @@ struct LongPlace {
 // has 1461 quarters of a day: the quarters that a whole number of years leaves over are those of the ordinal.
 fn decompose_julian(days: u64) -> LongPlace
     requires { ⌜ days < 4_000_000_000_000 ⌝ }
-    ensures { λ r. ⌜ Spot J.leapAt J.start days (r .year) (r .ordinal) ⌝ }
+    ensures { λ r. ⌜ InYear J.leapAt J.start days (r .year) (r .ordinal) ⌝ }
 {
     let quarters = 4 * days;
     LongPlace {
@@ -204,4 +204,15 @@ pub fn day_number(day: u64) -> DayNumber
         return DayNumber::Outside32;
     }
     DayNumber::Day(lowered((day - 782_219_326_294) as u32))
+}
+
+// ---- A day with its label
+
+// A held day, with its raised year, and the ordinal, the month and the day of the month that it has in its own reckoning.
+pub struct Spot {
+    pub held: u64,
+    pub year: u32,
+    pub ordinal: u32,
+    pub month: u32,
+    pub day: u32,
 }

@@ -1,11 +1,18 @@
 -- What the functions say, of days and years that are held as naturals and of a calendar that goes over on the held day r.
 use mathlib.Core.Path.{_≡_}
 use mathlib.Core.Bool.{Bool}
-use Prim.Native.Nat.{ℕ}
+use Prim.Native.Nat.{ℕ, _<_, _≤_}
+use Rattle.days.specs.Julian as J
+use Rattle.days.specs.Gregorian as G
 use Rattle.inner.specs.Natural.{heldYear}
 use Rattle.monthdays.specs.Promise.{MonthDayAt}
-use Rattle.changeover.specs.declared.Spot.{Spot}
-use Rattle.changeover.specs.Spots.{LabelledAt, spot}
+use Rattle.inner.specs.declared.Spot.{Spot}
+use Rattle.inner.specs.Spots.{At, spot}
+
+-- day k is the day d of the month m of the year y, and the o-th of that year, in the reckoning that labels it
+pub data LabelledAt (r k y m d o : ℕ) : Type 0 where
+  old : k < r → At J.leapAt J.start k y m d o → LabelledAt r k y m d o
+  new : r ≤ k → At G.leapAt G.start k y m d o → LabelledAt r k y m d o
 
 -- a spot has the year, the ordinal, the month and the day that its day has in the reckoning that labels it
 abbrev pub OnSpot : ℕ → Spot → Type 0

@@ -10,9 +10,9 @@ use Rattle.days.specs.Gregorian as G
 use Rattle.inner.specs.Natural.{heldYear}
 use Rattle.monthdays.specs.Promise.{MonthDayAt}
 use Rattle.monthdays.specs.Laws.{month-day-in}
-use Rattle.changeover.specs.declared.Spot as S
-use Rattle.changeover.specs.Spots.{At, old, new}
-use Rattle.labels.specs.Labels.{OnSpot, SpotOn, SpotAt}
+use Rattle.inner.specs.declared.Spot as S
+use Rattle.inner.specs.Spots.{At}
+use Rattle.labels.specs.Labels.{old, new, OnSpot, SpotOn, SpotAt}
 
 -- its month and day by arithmetic
 at-spot : {leapAt : ℕ → Bool} {start : ℕ → ℕ} {k y m d o : ℕ} → HeldYear y → Spot leapAt start k y o → MonthDayAt (leapAt y) o m d → At leapAt start k y m d o

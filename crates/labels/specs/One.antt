@@ -16,10 +16,9 @@ use Rattle.monthdays.specs.Promise.{InYear}
 use Rattle.monthdays.specs.Laws.{in-year-month}
 use Rattle.inner.specs.One.{spot-one}
 use Rattle.monthdays.specs.One.{in-year-one}
-use Rattle.changeover.specs.declared.Spot.{Spot}
-use Rattle.changeover.specs.Spots.{At, old, new, spot}
-use Rattle.changeover.specs.Laws.{at-from}
-use Rattle.labels.specs.Labels.{OnSpot, SpotOn}
+use Rattle.inner.specs.declared.Spot.{Spot}
+use Rattle.inner.specs.Spots.{At, spot, at-from}
+use Rattle.labels.specs.Labels.{old, new, OnSpot, SpotOn}
 
 -- a day has one label in a reckoning
 module _ {c : Reckoning} {leapAt : ℕ → Bool} {start : ℕ → ℕ} (starts : Starts.Starts c leapAt start) where

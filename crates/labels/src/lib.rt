@@ -3,7 +3,7 @@
 ghost use Prim.Native.Nat.{_≤_};
 ghost use Rattle.inner.specs.Natural.{heldDay};
 ghost use Rattle.labels.specs.Labels.{SpotOn, SpotAt};
-use changeover::Spot;
+use inner::Spot;
 
 // The spot of a raised day. Days below the switch are Julian, and those from it on Gregorian.
 pub fn spot_on(switch: u64, x: u32) -> Spot
@@ -33,7 +33,7 @@ fn spot_at(held: u64, year: u32, ordinal: u32, leap: bool) -> Spot
     requires { ⌜ 1 ≤ ordinal ⌝ }
     ensures { λ s. ⌜ SpotAt held year ordinal leap s ⌝ }
 {
-    let at = inner::month_day(leap, ordinal - 1);
+    let at = monthdays::month_day(leap, ordinal - 1);
     Spot {
         held: held,
         year: year,

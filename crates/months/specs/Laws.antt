@@ -37,7 +37,7 @@ use Rattle.calendar.specs.Laws.{found-label, label-row, refused-row, refused-no
 use Rattle.changeover.specs.declared.MonthSpan.{MonthSpan}
 use Rattle.changeover.specs.declared.Spanned.{Spanned}
 use Rattle.changeover.specs.declared.Spanned.the-variants as Spanned′
-use Rattle.changeover.specs.declared.Spot.{Spot}
+use Rattle.inner.specs.declared.Spot.{Spot}
 use Rattle.changeover.specs.declared.Found.the-variants as Found′
 use Rattle.changeover.specs.Spots as S
 use Rattle.changeover.specs.Spots.{YearSpan, SpansMonth, Finds}
