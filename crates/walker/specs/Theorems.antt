@@ -4,7 +4,6 @@ use mathlib.Core.Path.{_≡_, refl, sym, _∙_, ap, subst}
 use mathlib.Core.Bool.{Bool, true, false}
 use mathlib.Core.Logic.{⊎-elim}
 use Prim.Native.Nat.{ℕ, zero, suc, _+_}
-use native.Mathlib.Omega.{arith}
 use lib.IntN.{ℤ, pos, negsuc, sucℤ, predℤ, _+ℤ_, _-ℤ_, +ℤ-sucℤ, +ℤ-predℤ, +ℤ-one, -ℤ-one, suc-pred, sucℤ-+ℤ, predℤ-+ℤ, +ℤ-negℤ-cancel, -ℤ-+ℤ-cancel}
 use lib.Signed.{_<ℤ_, clashℤ}
 use Rattle.whole.specs.Integers.{lt-or-ge, lt-le, lt-trans, le-trans, lt-suc}
@@ -13,7 +12,7 @@ use Rattle.days.specs.DayByDay.{Is32Bit}
 use Rattle.calendar.specs.declared.Calendar.{Calendar}
 use Rattle.calendar.specs.declared.Date.{Date}
 use Rattle.calendar.specs.declared.Dated.{Dated}
-use Rattle.calendar.specs.Calendars.{Accepted, IsRecord, Genuine}
+use Rattle.calendar.specs.Calendars.{IsRecord, Genuine}
 use Rattle.calendar.specs.Rows.{refuses, passes, Unless}
 use Rattle.calendar.specs.Promise.{refused, RecordOf, record-of}
 use Rattle.ways.specs.declared.Kind.{Kind}
@@ -22,8 +21,9 @@ use Rattle.walker.specs.declared.Walker.{Walker}
 use Rattle.walker.specs.declared.Walked.the-variants as Walked′
 use Rattle.walker.specs.declared.Moved.{Moved}
 use Rattle.ways.specs.Ways.{toward, gives, holds, FlagAt}
+use Rattle.ways.specs.Laws.{not-both}
 use Rattle.walker.specs.Promise.{GenuineWalker, walker, made, Makes, moves, Steps}
-use Rattle.walker.specs.Laws.{last-gives}
+use Rattle.walker.specs.Laws.{record-genuine}
 
 -- ---- Any number of calls
 
@@ -111,20 +111,11 @@ data State (k : Kind) (c : Calendar) : ℤ → Walker → Type 0 where
   waits : {h : Date} → h .calendar ≡ c → Genuine h → Is32Bit (gives k (h .jdn)) → State k c (gives k (h .jdn)) (walker k h false)
   spent : {h : Date} {g : ℤ} → Genuine h → ¬ Is32Bit (toward k (h .jdn)) → Past k g → State k c g (walker k h true)
 
-never-true : false ≡ true → ⊥
-never-true e = let z : _≡_ {A = ℕ} 0 1 = cc in omega arith
-
-record-genuine : {c : Calendar} {n : ℤ} {d : Date} → Accepted c → IsRecord c n d → Genuine d
-record-genuine {c} {n} {d} a i = record {
-  accepted = subst Accepted (sym (i .calendar-is)) a;
-  is-record = subst (λ (z : ℤ). IsRecord (d .calendar) z d) (sym (i .day-is)) (subst (λ (b : Calendar). IsRecord b n d) (sym (i .calendar-is)) i);
-}
-
 module _ (k : Kind) (c : Calendar) where
   -- what the next call gives
   given : {g : ℤ} {v : Walker} {m : Moved} → State k c g v → Steps v m → Unless (Is32Bit g) (refused 15 (pos 0)) (RecordOf c g) (m .answer)
   given (waits e h f) (refuses x) = absurd (x (record { date-genuine = h; flag-is = f }))
-  given (waits e h f) (passes w (refuses t)) = absurd (never-true t)
+  given (waits e h f) (passes w (refuses t)) = absurd (not-both refl t)
   given (waits {h = b} e h f) (passes w (passes x (moves {d = d} r t u))) = passes f (record-of (subst (λ (a : Calendar). IsRecord a (gives k (b .jdn)) d) e r))
   given (spent h x p) (refuses y) = absurd (y (record { date-genuine = h; flag-is = x }))
   given {g} (spent h x p) (passes w (refuses t)) = refuses (past-off k g p)
@@ -133,7 +124,7 @@ module _ (k : Kind) (c : Calendar) where
   -- and the state after it
   next-state : {g : ℤ} {v : Walker} {m : Moved} → State k c g v → Steps v m → State k c (toward k g) (m .walker)
   next-state (waits e h f) (refuses x) = absurd (x (record { date-genuine = h; flag-is = f }))
-  next-state (waits e h f) (passes w (refuses t)) = absurd (never-true t)
+  next-state (waits e h f) (passes w (refuses t)) = absurd (not-both refl t)
   next-state (waits {h = b} e h f) (passes w (passes x (moves {e = true} r t u))) =
       spent (record-genuine (h .accepted) u) (subst (λ (z : ℤ). ¬ Is32Bit (toward k z)) (sym (u .day-is)) t) (past-first k (gives k (b .jdn)) f t)
   next-state (waits {h = b} e h f) (passes w (passes x (moves {h = a} {e = false} r t u))) =
@@ -194,7 +185,9 @@ genuine-given w f g = by (w .kind) (w .date) (w .ended) f (g .date-genuine) (g .
     one-step : (k : Kind) (d : Date) → Genuine d → gives k (d .jdn) ≡ d .jdn → Is32Bit (d .jdn) → ¬ Is32Bit (toward k (d .jdn)) → Given (walker k d true)
     one-step k d g s f x =
         let n = subst Is32Bit (sym s) f in
-        by-step (by-making {k = k} f (passes g (made n))) (last-gives (walker k d false) (record { genuine = record { date-genuine = g; flag-is = n }; none-ahead = x }) refl)
+        let i = subst (λ (z : ℤ). IsRecord (d .calendar) z d) (sym s) (g .is-record) in
+        by-step (by-making {k = k} f (passes g (made n)))
+        (passes (record { date-genuine = g; flag-is = n }) (passes (not-both refl) (moves {d = d} {h = d} {e = true} i (subst (λ (z : ℤ). ¬ Is32Bit (toward k z)) (sym s) x) i)))
 
     by : (k : Kind) (d : Date) (e : Bool) → Is32Bit (d .jdn) → Genuine d → FlagAt k (d .jdn) e → Given (walker k d e)
     by k d false f g x = by-making {k = k} f (passes g (made x))

@@ -2,21 +2,17 @@
 // no date left to give. A step that is refused changes nothing in it.
 
 ghost use mathlib.Core.Path.{_≡_};
-ghost use Rattle.calendar.specs.declared.Dated.the-variants as Dated′;
-ghost use Rattle.calendar.specs.Promise.{Next};
-ghost use Rattle.ways.specs.Ways.{toward};
-ghost use Rattle.walker.specs.Promise.{Makes, Steps, unmoved, moved, walker};
-ghost use Rattle.walker.specs.Private.{OnTheLast, OnTheWay};
+ghost use Rattle.calendar.specs.Calendars.{IsRecord, Genuine};
 ghost use Rattle.ways.specs.declared.Kind.the-variants as Kind′;
+ghost use Rattle.walker.specs.Promise.{Makes, Steps, unmoved, moved};
+ghost use Rattle.walker.specs.Private.{Gave};
 use calendar::Date;
 use calendar::Dated;
 use calendar::Refusal;
 use calendar::refusal_of;
 pub use ways::Kind;
+use ways::Step;
 use ways::ended_when_made;
-use ways::flag_fits;
-use ways::gives_held;
-use ways::is_last;
 
 pub struct Walker {
     pub kind: Kind,
@@ -35,19 +31,6 @@ pub enum Walked {
 pub struct Moved {
     pub answer: Dated,
     pub walker: Walker,
-}
-
-// ---- The ways that walkers go
-
-fn ahead(kind: Kind, date: Date) -> Dated
-    ensures { λ a. ⌜ Next date (toward kind (date .jdn)) a ⌝ }
-{
-    match kind {
-        Kind::Later => date.succ(),
-        Kind::Earlier => date.pred(),
-        Kind::AndLater => date.succ(),
-        Kind::AndEarlier => date.pred(),
-    }
 }
 
 // ---- Making a walker
@@ -105,45 +88,36 @@ fn refused(number: u32, walker: Walker) -> Moved
     }
 }
 
-// The date that is given, and a walker that holds a date.
-fn gave(given: Date, kind: Kind, held: Date, ended: bool) -> Moved
-    ensures { λ m. ⌜ m ≡ moved (Dated′.Date given) (walker kind held ended) ⌝ }
+// The record of a day in the calendar of this date. The calendar of a genuine date is accepted, and has a record of each day.
+fn on_day(date: Date, jdn: i32) -> Date
+    requires { ⌜ Genuine date ⌝ }
+    ensures { λ d. ⌜ IsRecord (date .calendar) jdn d ⌝ }
 {
+    if jdn == date.jdn {
+        return date;
+    }
+    let calendar = date.calendar;
+    match calendar.at_jdn(jdn) {
+        Dated::Date(d) => d,
+        Dated::Refused(_) => date,
+    }
+}
+
+// The record of the day that is given, and a walker that holds the record of another day, or of the same.
+fn gave(kind: Kind, date: Date, given: i32, held: i32, ended: bool) -> Moved
+    requires { ⌜ Genuine date ⌝ }
+    ensures { λ m. ⌜ Gave kind (date .calendar) given held ended m ⌝ }
+{
+    let first = on_day(date, given);
+    let after = on_day(first, held);
     Moved {
-        answer: Dated::Date(given),
+        answer: Dated::Date(first),
         walker: Walker {
             kind: kind,
-            date: held,
+            date: after,
             ended: ended,
         },
     }
-}
-
-// A step of a genuine walker that no date lies ahead of.
-fn on_the_last(walker: Walker) -> Moved
-    requires { ⌜ OnTheLast walker ⌝ }
-    ensures { λ m. ⌜ Steps walker m ⌝ }
-{
-    if walker.ended {
-        return refused(15, walker);
-    }
-    let kind = walker.kind;
-    let date = walker.date;
-    gave(date, kind, date, true)
-}
-
-// A step of a genuine walker that this date lies ahead of.
-fn on_the_way(walker: Walker, next: Date) -> Moved
-    requires { ⌜ OnTheWay walker next ⌝ }
-    ensures { λ m. ⌜ Steps walker m ⌝ }
-{
-    let kind = walker.kind;
-    let date = walker.date;
-    if gives_held(kind) {
-        return gave(date, kind, next, false);
-    }
-    let ended = is_last(kind, next.jdn);
-    gave(next, kind, next, ended)
 }
 
 // One step, by value.
@@ -152,18 +126,15 @@ pub fn stepped(walker: Walker) -> Moved
 {
     let kind = walker.kind;
     let date = walker.date;
-    if !flag_fits(kind, date.jdn, walker.ended) {
-        return refused(16, walker);
+    let genuine = date.is_genuine();
+    if genuine {
+        return match ways::next_step(kind, date.jdn, walker.ended) {
+            Step::MadeUp => refused(16, walker),
+            Step::Ended => refused(15, walker),
+            Step::Gives(given, held, ended) => gave(kind, date, given, held, ended),
+        };
     }
-    match ahead(kind, date) {
-        Dated::Date(next) => on_the_way(walker, next),
-        Dated::Refused(refusal) => {
-            if refusal.number == 16 {
-                return refused(16, walker);
-            }
-            on_the_last(walker)
-        }
-    }
+    refused(16, walker)
 }
 
 // The walker is lent, and moves one day.

@@ -1,4 +1,4 @@
--- The ways of walkers: what they are (`Ways`), that what is said of them is one (`One`), and the laws behind it.
+-- The ways of walkers. A reader's file is `Ways`; `One` shows that what is said there allows one answer, and `Laws` has what the proofs go by.
 pub mod Ways
 pub mod One
 pub mod Laws

@@ -1,10 +1,11 @@
--- What is said of a way allows one answer.
+-- Two answers that a promise allows for one input are equal.
 -- Assumes nothing.
 use mathlib.Core.Path.{_≡_, refl}
 use mathlib.Core.Bool.{Bool, true, false}
 use lib.IntN.{ℤ}
 use Rattle.ways.specs.declared.Kind.{Kind}
-use Rattle.ways.specs.Ways.{EndedAt, FlagFits}
+use Rattle.ways.specs.declared.Step.{Step}
+use Rattle.ways.specs.Ways.{toward, gives, EndedAt, NextStep, made-up, ended, goes}
 
 pub ended-one : (n : ℤ) (a b : Bool) → EndedAt n a → EndedAt n b → a ≡ b
 ended-one n true true p q = refl
@@ -12,8 +13,11 @@ ended-one n true false p q = absurd (p q)
 ended-one n false true p q = absurd (q p)
 ended-one n false false p q = refl
 
-pub flag-fits-one : (k : Kind) (n : ℤ) (e a b : Bool) → FlagFits k n e a → FlagFits k n e b → a ≡ b
-flag-fits-one k n e true true x y = refl
-flag-fits-one k n e true false x y = absurd (y x)
-flag-fits-one k n e false true x y = absurd (x y)
-flag-fits-one k n e false false x y = refl
+pub next-step-one : (k : Kind) (n : ℤ) (e : Bool) (a b : Step) → NextStep k n e a → NextStep k n e b → a ≡ b
+next-step-one k n e a b (made-up x) (made-up y) = refl
+next-step-one k n e a b (made-up x) (ended l) = absurd (x l)
+next-step-one k n e a b (made-up x) (goes l p) = absurd (x l)
+next-step-one k n e a b (ended l) (made-up x) = absurd (x l)
+next-step-one k n e a b (ended l) (ended m) = refl
+next-step-one k n e a b (goes l p) (made-up x) = absurd (x l)
+next-step-one k n e a b (goes l {e = f} p) (goes m {e = g} q) = let s : f ≡ g = ended-one (toward k (gives k n)) f g p q in cc

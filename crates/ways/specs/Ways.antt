@@ -5,6 +5,15 @@ use lib.IntN.{ℤ, sucℤ, predℤ}
 use Rattle.days.specs.DayByDay.{Is32Bit}
 use Rattle.ways.specs.declared.Kind.{Kind}
 use Rattle.ways.specs.declared.Kind.the-variants.{Later, Earlier, AndLater, AndEarlier}
+use Rattle.ways.specs.declared.Step.{Step}
+use Rattle.ways.specs.declared.Step.the-variants as Step′
+
+-- whether a walker goes to later days; else it goes to earlier ones
+abbrev pub goesLater : Kind → Bool
+goesLater Later = true
+goesLater Earlier = false
+goesLater AndLater = true
+goesLater AndEarlier = false
 
 -- the day that lies ahead of day n
 abbrev pub toward : Kind → ℤ → ℤ
@@ -47,7 +56,9 @@ abbrev pub FlagAt : Kind → ℤ → Bool → Type 0
 FlagAt k n true = ¬ Is32Bit (toward k n)
 FlagAt k n false = Is32Bit (gives k n)
 
--- a walker on day n can have this flag
-abbrev pub FlagFits : Kind → ℤ → Bool → Bool → Type 0
-FlagFits k n e true = FlagAt k n e
-FlagFits k n e false = ¬ FlagAt k n e
+-- a step of a walker that holds day n and has the flag e: it is no flag that this day can have; the walker is ended; or the day to give, the
+-- day that is held after it, and whether the walker is then ended
+pub data NextStep (k : Kind) (n : ℤ) : Bool → Step → Type 0 where
+  made-up : {e : Bool} → ¬ FlagAt k n e → NextStep k n e Step′.MadeUp
+  ended : FlagAt k n true → NextStep k n true Step′.Ended
+  goes : FlagAt k n false → {e : Bool} → EndedAt (toward k (gives k n)) e → NextStep k n false (Step′.Gives (gives k n) (holds k e (gives k n)) e)

@@ -1,7 +1,9 @@
-// The four ways that walkers go, by day numbers: whether a day lies ahead, and which flags a walker can have on a day.
+// The four ways that walkers go, by day numbers: which day a step gives, which day the walker holds after it, and when it is ended.
 
 ghost use mathlib.Core.Path.{_≡_};
-ghost use Rattle.ways.specs.Ways.{toward, gives, givesHeld, EndedAt, FlagFits};
+ghost use Rattle.days.specs.DayByDay.{Is32Bit};
+ghost use Rattle.ways.specs.Ways.{goesLater, toward, givesHeld, gives, EndedAt, NextStep};
+use whole::lowered;
 use whole::raised;
 
 // Where a walker goes, and whether it gives the date first that it was made from. One that does holds the date to give next; one that
@@ -13,19 +15,28 @@ pub enum Kind {
     AndEarlier,
 }
 
-// Whether no day lies ahead.
-pub fn is_last(kind: Kind, jdn: i32) -> bool
-    ensures { λ b. ⌜ EndedAt (toward kind jdn) b ⌝ }
+// What a step does: no walker on this day has this flag; no day is left to give; or the day that is given, the day that is held after it,
+// and whether the walker is then ended.
+pub enum Step {
+    MadeUp,
+    Ended,
+    Gives(i32, i32, bool),
+}
+
+// ---- The kinds of walkers
+
+fn goes_later(kind: Kind) -> bool
+    ensures { λ b. ⌜ b ≡ goesLater kind ⌝ }
 {
     match kind {
-        Kind::Later => raised(jdn) == 4_294_967_295,
-        Kind::Earlier => raised(jdn) == 0,
-        Kind::AndLater => raised(jdn) == 4_294_967_295,
-        Kind::AndEarlier => raised(jdn) == 0,
+        Kind::Later => true,
+        Kind::Earlier => false,
+        Kind::AndLater => true,
+        Kind::AndEarlier => false,
     }
 }
 
-pub fn gives_held(kind: Kind) -> bool
+fn gives_held(kind: Kind) -> bool
     ensures { λ b. ⌜ b ≡ givesHeld kind ⌝ }
 {
     match kind {
@@ -35,6 +46,30 @@ pub fn gives_held(kind: Kind) -> bool
         Kind::AndEarlier => true,
     }
 }
+
+// ---- The day ahead
+
+// Whether no day lies ahead.
+fn is_last(kind: Kind, jdn: i32) -> bool
+    ensures { λ b. ⌜ EndedAt (toward kind jdn) b ⌝ }
+{
+    if goes_later(kind) {
+        return raised(jdn) == 4_294_967_295;
+    }
+    raised(jdn) == 0
+}
+
+fn ahead(kind: Kind, jdn: i32) -> i32
+    requires { ⌜ Is32Bit (toward kind jdn) ⌝ }
+    ensures { λ n. ⌜ n ≡ toward kind jdn ⌝ }
+{
+    if goes_later(kind) {
+        return lowered(raised(jdn) + 1);
+    }
+    lowered(raised(jdn) - 1)
+}
+
+// ---- Making a walker
 
 // A walker that gives the date held has at least that one to give.
 pub fn ended_when_made(kind: Kind, jdn: i32) -> bool
@@ -46,12 +81,44 @@ pub fn ended_when_made(kind: Kind, jdn: i32) -> bool
     is_last(kind, jdn)
 }
 
-// Whether a walker on this day can have this flag: one that is not ended has as much to give as one that is made on this day.
-pub fn flag_fits(kind: Kind, jdn: i32, ended: bool) -> bool
-    ensures { λ b. ⌜ FlagFits kind jdn ended b ⌝ }
+// ---- Stepping
+
+// A step of a walker that no day lies ahead of.
+fn on_the_last(kind: Kind, jdn: i32, ended: bool) -> Step
+    requires { ⌜ ¬ Is32Bit (toward kind jdn) ⌝ }
+    ensures { λ s. ⌜ NextStep kind jdn ended s ⌝ }
 {
     if ended {
-        return is_last(kind, jdn);
+        return Step::Ended;
     }
-    !ended_when_made(kind, jdn)
+    if !gives_held(kind) {
+        return Step::MadeUp;
+    }
+    Step::Gives(jdn, jdn, true)
+}
+
+// A step of a walker that a day lies ahead of.
+fn on_the_way(kind: Kind, jdn: i32, ended: bool) -> Step
+    requires { ⌜ Is32Bit (toward kind jdn) ⌝ }
+    ensures { λ s. ⌜ NextStep kind jdn ended s ⌝ }
+{
+    if ended {
+        return Step::MadeUp;
+    }
+    let next = ahead(kind, jdn);
+    if gives_held(kind) {
+        return Step::Gives(jdn, next, false);
+    }
+    let last = is_last(kind, next);
+    Step::Gives(next, next, last)
+}
+
+// A step of a walker that holds this day and has this flag.
+pub fn next_step(kind: Kind, jdn: i32, ended: bool) -> Step
+    ensures { λ s. ⌜ NextStep kind jdn ended s ⌝ }
+{
+    if is_last(kind, jdn) {
+        return on_the_last(kind, jdn, ended);
+    }
+    on_the_way(kind, jdn, ended)
 }
