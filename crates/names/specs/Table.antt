@@ -1,4 +1,5 @@
--- The names of the calendars in the order of their numbers, from 0: by their lengths, and those of a length as in `ncal.rs`.
+-- The names of the calendars in the order of their numbers, from 0: by their lengths, and of each length `JULIAN` or `GREGORIAN` before the countries,
+-- which come in the order of `ncal.rs`.
 -- Assumes nothing.
 use mathlib.Core.List.{List, [], _∷_, map}
 use Prim.Native.Nat.{ℕ}
