@@ -27,6 +27,7 @@ fn front_answer(line: &[u8], held: usize) -> Dated
     entry::line_answer(&line[..held])
 }
 
+// Its answer as a line of the listing.
 pub fn held_line(line: &[u8; 512], held: usize) -> Line
     ensures { λ l. ⌜ HeldAs (now (line .entry)) held l ⌝ }
 {

@@ -65,7 +65,7 @@ fn turn(
     }
 }
 
-// Lists the lines of a block from `at` on, as long as the output has room. What is held of a line goes on from block to block.
+// Lists the lines of a block from a place on, as long as the output has room. What is held of a line goes on from block to block.
 pub fn list_block(
     block: &[u8],
     from: usize,
@@ -76,26 +76,17 @@ pub fn list_block(
 ) -> Progress
     ensures { λ p. ⌜ Lists (now (block .entry)) (stand from (now (line .entry)) held (now (out .entry)) used) (stand (p .at) (now (line .exit)) (p .held) (now (out .exit)) (p .used)) ⌝ }
 {
-    let mut at = from;
-    let mut n = held;
-    let mut to = used;
-    while at < block.len() {
-        if writer::has_room(out.len(), to, 132) {
-            let p = turn(block, at, line, n, out, to);
-            at = p.at;
-            n = p.held;
-            to = p.used;
+    let mut p = Progress {
+        at: from,
+        held,
+        used,
+    };
+    while p.at < block.len() {
+        if writer::has_room(out.len(), p.used, 132) {
+            p = turn(block, p.at, line, p.held, out, p.used);
         } else {
-            return Progress {
-                at,
-                held: n,
-                used: to,
-            };
+            return p;
         }
     }
-    Progress {
-        at,
-        held: n,
-        used: to,
-    }
+    p
 }

@@ -11,10 +11,10 @@ use Rattle.listing.proofs.list_block.Statement.{statement}
 use Rattle.listing.proofs.list_block.Tie as tie
 
 abbrev Inv-loop : tie.InvT-loop
-Inv-loop block from line₀ held out₀ used at₀ n₀ to₀ line out at n to = Listing block (stand from line₀ held out₀ used) (stand at line n out to)
+Inv-loop block from line₀ held out₀ used p₀ line out p = Listing block (stand from line₀ held out₀ used) (stand (p .at) line (p .held) out (p .used))
 
 abbrev μ-loop : tie.MeasureT-loop
-μ-loop block from line₀ held out₀ used at₀ n₀ to₀ line out at n to = length block - at
+μ-loop block from line₀ held out₀ used p₀ line out p = length block - p .at
 
 loop-holds : tie.Need-loop-holds Inv-loop μ-loop
 loop-holds c = listing-start _ _
@@ -23,25 +23,25 @@ has-room-requires : tie.Need-has-room-requires Inv-loop μ-loop
 has-room-requires c κs = tt
 
 turn-requires : tie.Need-turn-requires Inv-loop μ-loop
-turn-requires c κs = (c .before .before .before .before .loop-test .taken, leb-true _ _ (sym (c .before .before .before .has-room .ensures) ∙ c .before .before .if1 .taken))
+turn-requires c κs = (c .before .before .before .before .if1 .taken, leb-true _ _ (sym (c .before .before .before .has-room .ensures) ∙ c .before .before .if2 .taken))
 
 loop-less : tie.Need-loop-less Inv-loop μ-loop
-loop-less c = omega (arith, turn-grows (c .before .before .turn .ensures) (c .before .before .before .before .before .before .before .loop-test .taken), c .before .before .before .before .before .before .before .loop-test .taken)
+loop-less c = omega (arith, turn-grows (c .before .before .turn .ensures) (c .before .before .before .before .before .before .before .if1 .taken), c .before .before .before .before .before .before .before .if1 .taken)
 
 loop-again : tie.Need-loop-again Inv-loop μ-loop
-loop-again c = listing-on (c .before .before .before .before .before .before .before .before .loop .inv) (c .before .before .before .before .before .before .before .loop-test .taken) (leb-true _ _ (sym (c .before .before .before .before .before .before .has-room .ensures) ∙ c .before .before .before .before .before .if1 .taken)) (c .before .before .turn .ensures) (search needs)
+loop-again c = listing-on (c .before .before .before .before .before .before .before .before .before .loop .inv) (c .before .before .before .before .before .before .before .if1 .taken) (leb-true _ _ (sym (c .before .before .before .before .before .before .has-room .ensures) ∙ c .before .before .before .before .before .if2 .taken)) (c .before .before .turn .ensures) (search needs)
 
 same-length : tie.Need-same-length Inv-loop μ-loop
-same-length c = c .before .before .before .loop .inv .long
+same-length c = c .before .before .before .before .loop .inv .long
 
 returns : tie.Need-returns Inv-loop μ-loop
-returns c = c .before .before .before .loop .inv .onward _ (Lists.out-of-room (leb-false _ _ (sym (c .before .has-room .ensures) ∙ c .if1 .left)))
+returns c = c .before .before .before .before .loop .inv .onward _ (Lists.out-of-room (leb-false _ _ (sym (c .before .has-room .ensures) ∙ c .if2 .left)))
 
 same-length-2 : tie.Need-same-length-2 Inv-loop μ-loop
-same-length-2 c = c .before .loop .inv .long
+same-length-2 c = c .before .before .loop .inv .long
 
 returns-2 : tie.Need-returns-2 Inv-loop μ-loop
-returns-2 c = c .before .loop .inv .onward _ (Lists.block-ends (c .loop-test .left))
+returns-2 c = c .before .before .loop .inv .onward _ (Lists.block-ends (c .if1 .left))
 
 pub list-block-spec : {M : Type 1} → statement M
 list-block-spec =
