@@ -12,16 +12,18 @@ use Rattle.calendar.specs.declared.Date.{Date}
 use Rattle.calendar.specs.declared.Dated.{Dated}
 use Rattle.calendar.specs.declared.Dated.the-variants as Dated′
 use Rattle.calendar.specs.Promise.{refusal}
-use Rattle.writer.specs.Writing.{put, Puts, Writes}
-use Rattle.writer.specs.Puts.{put-none, length-put, wrote, left-alone}
+use Rattle.buffer.specs.Buffer.{put, Copies, copied, no-room}
+use Rattle.buffer.specs.Puts.{put-none, length-put}
+use Rattle.buffer.specs.declared.Copied.{Copied}
+use Rattle.writer.specs.Writing.{Puts, Writes}
+use Rattle.writer.specs.Puts.{wrote, left-alone}
 use Rattle.writer.specs.declared.Written.{Written}
 use Rattle.refusals.specs.Refusals.{refusal as textRefusal}
 use Rattle.refusals.specs.declared.Refusal.{Refusal}
 use Rattle.entry.specs.Entry.{Without, UpTo, LineAnswer}
-use Rattle.linetext.specs.Line.{newline, LineOut, Copies, copied, no-room}
+use Rattle.linetext.specs.Line.{newline, LineOut}
 use Rattle.linetext.specs.declared.Row.{Row}
 use Rattle.linetext.specs.declared.Line.{Line}
-use Rattle.linetext.specs.declared.Copied.{Copied}
 use Rattle.listing.specs.Lines.{header, rowOf, lineOf, Listed, listed}
 
 -- ---- an unfinished line, in the line buffer: n bytes of it stand there, or it is too long, and n is above 512

@@ -11,8 +11,8 @@ use native.Mathlib.Omega.{arith}
 use lib.ListN.{length, take, drop, length-append}
 use lib.Seq.{take-at, drop-drop, drop-at, length-take-le, drop-length}
 use Rattle.calendar.specs.Rows.{refuses}
-use Rattle.writer.specs.Writing.{put}
-use Rattle.writer.specs.Puts.{put-none, put-then, length-put}
+use Rattle.buffer.specs.Buffer.{put}
+use Rattle.buffer.specs.Puts.{put-none, put-then, length-put}
 use Rattle.entry.specs.Entry.{Without, LineAnswer}
 use Rattle.entry.specs.Laws.{without-both}
 use Rattle.linetext.specs.Line.{newline}

@@ -8,10 +8,10 @@ ghost use Rattle.writer.specs.Writing.{Writes};
 ghost use Rattle.entry.specs.Entry.{LineAnswer};
 ghost use Rattle.listing.specs.Lines.{header, rowOf, lineOf, Listed};
 ghost use Rattle.listing.specs.Blocks.{Fills, HeldAs, HeldLine, Wrote, LastLine, stand, Turn, Lists};
+use buffer::Copied;
 use calendar::Date;
 use calendar::Dated;
 use calendar::Weekday;
-use linetext::Copied;
 use linetext::Line;
 use linetext::Row;
 use writer::Written;
@@ -54,7 +54,7 @@ const HEADER: [u8; 35] = *b"jdn\tyear\tordinal\tmonth\tday\tweekday\n";
 pub fn put_header(out: &mut [u8], at: usize) -> Written
     ensures { λ r. ⌜ Writes (λ t. t ≡ header) (now (out .entry)) at (now (out .exit)) r ⌝ }
 {
-    match linetext::copy_text(out, at, &HEADER) {
+    match buffer::copy_text(out, at, &HEADER) {
         Copied::To(end) => Written::Done(end),
         Copied::NoRoom => Written::Refused(numbertext::refusal(18, 0, 35)),
     }
@@ -73,7 +73,7 @@ pub struct Progress {
 fn fill(line: &mut [u8; 512], held: usize, part: &[u8]) -> usize
     ensures { λ r. ⌜ Fills (now (line .entry)) held (now (part .entry)) (now (line .exit)) r ⌝ }
 {
-    match linetext::copy_text(line, held, part) {
+    match buffer::copy_text(line, held, part) {
         Copied::To(n) => n,
         Copied::NoRoom => 513,
     }
@@ -150,7 +150,7 @@ pub fn list_block(
     let mut n = held;
     let mut to = used;
     while at < block.len() {
-        if writer::has_room(out.len(), to, 132) {
+        if buffer::has_room(out.len(), to, 132) {
             let p = turn(block, at, line, n, out, to);
             at = p.at;
             n = p.held;
@@ -177,7 +177,7 @@ pub fn list_last(line: &[u8; 512], held: usize, out: &mut [u8], at: usize) -> Wr
     if 0 < held {
         return linetext::put_line(out, at, held_line(line, held));
     }
-    if writer::has_room(out.len(), at, 0) {
+    if buffer::has_room(out.len(), at, 0) {
         return Written::Done(at);
     }
     Written::Refused(numbertext::refusal(18, 0, 0))
