@@ -12,9 +12,9 @@ use Rattle.writer.specs.Puts.{left-alone}
 use Rattle.writer.specs.declared.Written.{Written}
 use Rattle.refusals.specs.Refusals.{refusal as textRefusal}
 use Rattle.refusals.specs.declared.Refusal.{Refusal}
-use Rattle.linetext.specs.Line.{Copies, copied, no-room}
+use Rattle.buffer.specs.Buffer.{Copies, copied, no-room}
 use Rattle.linetext.specs.declared.Row.{Row}
-use Rattle.linetext.specs.declared.Copied.{Copied}
+use Rattle.buffer.specs.declared.Copied.{Copied}
 use Rattle.columns.specs.Columns.{header, rowOf}
 
 pub row-is : (d : Date) {j y : ℤ} {w : ℕ} → j ≡ d .jdn → y ≡ d .year → w ≡ weekday (d .jdn) → _≡_ {A = Row} (record { jdn = j; year = y; ordinal = d .ordinal; month = d .month; day = d .day; weekday = w }) (rowOf d)

@@ -3,10 +3,10 @@
 ghost use mathlib.Core.Path.{_≡_};
 ghost use Rattle.writer.specs.Writing.{Writes};
 ghost use Rattle.columns.specs.Columns.{header, rowOf, lineOf};
+use buffer::Copied;
 use calendar::Date;
 use calendar::Dated;
 use calendar::Weekday;
-use linetext::Copied;
 use linetext::Line;
 use linetext::Row;
 use writer::Written;
@@ -40,7 +40,7 @@ const HEADER: [u8; 35] = *b"jdn\tyear\tordinal\tmonth\tday\tweekday\n";
 pub fn put_header(out: &mut [u8], at: usize) -> Written
     ensures { λ r. ⌜ Writes (λ t. t ≡ header) (now (out .entry)) at (now (out .exit)) r ⌝ }
 {
-    match linetext::copy_text(out, at, &HEADER) {
+    match buffer::copy_text(out, at, &HEADER) {
         Copied::To(end) => Written::Done(end),
         Copied::NoRoom => Written::Refused(numbertext::refusal(18, 0, 35)),
     }

@@ -13,7 +13,8 @@ use mir.Syntax.{w32}
 use mir.Val.{SFits}
 use Rattle.refusals.specs.declared.Refusal.{Refusal}
 use Rattle.numbertext.specs.Numerals.{Unsigned, Signed}
-use Rattle.writer.specs.Writing.{Decimal, WholeDecimal, YmdDecimal, WriteYmd}
+use Rattle.decimals.specs.Decimal.{Decimal}
+use Rattle.writer.specs.Writing.{WholeDecimal, YmdDecimal, WriteYmd}
 use Rattle.writer.specs.Theorems.{written-front}
 use Rattle.writer.specs.declared.Written.{Written}
 use Rattle.datetext.specs.Grammar.{Month, OrdinalText, YmdText, Fault, ReadDate}

@@ -5,8 +5,8 @@ ghost use lib.ListN.{length, take};
 ghost use Rattle.writer.specs.Writing.{Writes};
 ghost use Rattle.entry.specs.Entry.{LineAnswer};
 ghost use Rattle.heldline.specs.Held.{Fills, HeldAs, LastLine};
+use buffer::Copied;
 use calendar::Dated;
-use linetext::Copied;
 use linetext::Line;
 use writer::Written;
 
@@ -14,7 +14,7 @@ use writer::Written;
 pub fn fill(line: &mut [u8; 512], held: usize, part: &[u8]) -> usize
     ensures { λ r. ⌜ Fills (now (line .entry)) held (now (part .entry)) (now (line .exit)) r ⌝ }
 {
-    match linetext::copy_text(line, held, part) {
+    match buffer::copy_text(line, held, part) {
         Copied::To(n) => n,
         Copied::NoRoom => 513,
     }
@@ -44,7 +44,7 @@ pub fn list_last(line: &[u8; 512], held: usize, out: &mut [u8], at: usize) -> Wr
     if 0 < held {
         return linetext::put_line(out, at, held_line(line, held));
     }
-    if writer::has_room(out.len(), at, 0) {
+    if buffer::has_room(out.len(), at, 0) {
         return Written::Done(at);
     }
     Written::Refused(numbertext::refusal(18, 0, 0))

@@ -5,22 +5,24 @@ use mathlib.Core.Path.{_≡_, refl, sym, _∙_, ap, ap₂, subst}
 use mathlib.Core.Bool.{Bool, true, false}
 use mathlib.Core.List.{List, [], _∷_, _++_, append-assoc}
 use native.Mathlib.Omega.{arith}
-use lib.ListN.{length, getD, take, drop, set, length-append, length-set}
-use lib.Seq.{take-suc, take-all, take-at, length-take-le}
+use lib.ListN.{length, take, drop, length-append}
+use lib.Seq.{take-at}
 use lib.IntN.{ℤ, pos, natAbs}
 use Rattle.whole.specs.Edge.{isNegative}
 use Rattle.refusals.specs.Refusals.{refusal}
 use Rattle.digits.specs.Numerals.{dash}
 use Rattle.refusals.specs.declared.Refusal.{Refusal}
-use Rattle.writer.specs.Writing.{WholeDecimal, put, Puts, Writes}
-use Rattle.writer.specs.Decimals.{digitsOf, length-digits, width-few, decimal-of, counting-start, counting-step}
-use Rattle.writer.specs.Puts.{put-none, put-byte, put-then, So, so-on, wrote, left-alone, Signs, whole-text}
+use Rattle.buffer.specs.Buffer.{Copies, copied, no-room}
+use Rattle.buffer.specs.Puts.{So, so-on}
+use Rattle.buffer.specs.declared.Copied.{Copied}
+use Rattle.decimals.specs.Decimals.{digitsOf, length-digits, width-few, decimal-of, counting-start, counting-step}
+use Rattle.writer.specs.Writing.{WholeDecimal, Puts, Writes}
+use Rattle.writer.specs.Puts.{wrote, left-alone, Signs, whole-text}
 use Rattle.writer.specs.declared.Written.{Written}
-use Rattle.linetext.specs.Line.{newline, tab, mark, Columns, rowColumns, refusalColumns, of-row, of-refusal, Ended, ended, LineOut, Copies, copied}
+use Rattle.linetext.specs.Line.{newline, tab, mark, Columns, rowColumns, refusalColumns, of-row, of-refusal, Ended, ended, LineOut}
 use Rattle.linetext.specs.declared.Row.{Row}
 use Rattle.linetext.specs.declared.Line.{Line}
 use Rattle.linetext.specs.declared.Line.the-variants as Line′
-use Rattle.linetext.specs.declared.Copied.{Copied}
 
 -- ---- a text of at most m bytes, as IsText says, stands in the buffer from `at` on, and every other byte is as it was; i is the place after it
 
@@ -217,35 +219,6 @@ pub row-columns : {r : Row} {x y : ℤ} {b : List ℕ} {at : ℕ} {b₁ b₂ b�
     → Column x tab b at b₁ i₁ → Column y tab b₁ i₁ b₂ i₂ → CellsOf (pos (r .ordinal) ∷ pos (r .month) ∷ pos (r .day) ∷ pos (r .weekday) ∷ []) 88 b₂ i₂ b₃ i₃ → LineOf (Line′.Row r) b at b₃ i₃
 row-columns {r} h l e f c₁ c₂ t = row-line {r = r} (cell-before {m = 110} (omega arith) (column-as e c₁) (cell-before {m = 88} (omega (arith, ends c₁)) (column-as f c₂) t))
 
--- ---- bytes copied into the buffer, one after another
-
-pub record Copying (b₀ : List ℕ) (at : ℕ) (t b : List ℕ) (i : ℕ) : Type 0 where
-  pub is : b ≡ put b₀ at (take i t)
-  pub inside : i ≤ length t
-  pub same : length b ≡ length b₀
-
-pub copying-start : (b : List ℕ) (at : ℕ) (t : List ℕ) → Copying b at t b 0
-copying-start b at t = record { is = sym (put-none b at); inside = omega arith; same = refl }
-
-module _ {b₀ : List ℕ} {at : ℕ} {t b : List ℕ} {i : ℕ} (h : at + length t ≤ length b₀) (c : Copying b₀ at t b i) where
-  pub copying-on : i < length t → Copying b₀ at t (set b (at + i) (getD t i 0)) (i + 1)
-  copying-on l =
-      record {
-        is = put-byte b (at + i) (getD t i 0) (omega (arith, c .same)) ∙ ap (λ (x : List ℕ). put x (at + i) (getD t i 0 ∷ [])) (c .is) ∙ ap (λ (k : ℕ). put (put b₀ at (take i t)) (at + k) (getD t i 0 ∷ [])) (sym long)
-            ∙ put-then b₀ at (take i t) (getD t i 0 ∷ []) (omega (arith, long)) ∙ ap (put b₀ at) (sym (take-suc t i 0 l)) ∙ ap (λ (k : ℕ). put b₀ at (take k t)) one-on;
-        inside = omega arith;
-        same = length-set b (at + i) (getD t i 0) ∙ c .same;
-      }
-    where
-      long : length (take i t) ≡ i
-      long = length-take-le i t (c .inside)
-
-      one-on : suc i ≡ i + 1
-      one-on = omega arith
-
-  pub copying-done : length t ≤ i → So b₀ at t b (at + length t)
-  copying-done l = record { is = c .is ∙ ap (put b₀ at) (take-all i t l); place = refl }
-
 -- ---- a text made apart, at the front of a buffer of its own
 
 module _ {P : List ℕ → Type 0} {m : ℕ} {z z′ : List ℕ} {n : ℕ} (t : Text P m z 0 z′ n) where
@@ -255,21 +228,21 @@ module _ {P : List ℕ → Type 0} {m : ℕ} {z z′ : List ℕ} {n : ℕ} (t : 
   pub apart-is : take n z′ ≡ t .text
   apart-is = ap (take n) (t .so .is) ∙ take-at (t .text) (drop (0 + length (t .text)) z) n (omega (arith, t .so .place))
 
-  pub apart-few : n ≤ m
-  apart-few = omega (arith, apart-long, t .short)
-
   pub apart-part : n ≡ length (take n z′)
   apart-part = apart-long ∙ sym (ap length apart-is)
 
-  pub apart-room : (len at : ℕ) → at + n ≤ len → at + length (take n z′) ≤ len
-  apart-room len at = subst (λ (k : ℕ). at + k ≤ len) apart-part
-
   -- it has room, and was copied; or it has not
-  pub apart-done : {b : List ℕ} {at : ℕ} {b′ : List ℕ} {i : ℕ} → at + n ≤ length b → So b at (take n z′) b′ i → Writes P b at b′ (Written.Done i)
-  apart-done {b} {at} {b′} {i} h s = wrote (t .is) (omega (arith, apart-long)) (subst (λ (u : List ℕ). So b at u b′ i) apart-is s)
+  pub apart-done : {b : List ℕ} {at : ℕ} {b′ : List ℕ} {i : ℕ} → Copies (take n z′) b at b′ (Copied.To i) → Writes P b at b′ (Written.Done i)
+  apart-done {b} {at} {b′} {i} c = by (subst (λ (u : List ℕ). Copies u b at b′ (Copied.To i)) apart-is c)
+    where
+      by : {c : List ℕ} {j : ℕ} → Copies (t .text) b at c (Copied.To j) → Writes P b at c (Written.Done j)
+      by (copied h) = Writes.writes (t .is) (Puts.done h)
 
-  pub apart-left : {b : List ℕ} {at : ℕ} {f : Refusal} → length b < at + n → f ≡ refusal 18 0 (pos n) → Writes P b at b (Written.Refused f)
-  apart-left h g = left-alone (t .text) (t .is) apart-long (omega (arith, apart-long)) g
+  pub apart-left : {b : List ℕ} {at : ℕ} {b′ : List ℕ} {f : Refusal} → Copies (take n z′) b at b′ Copied.NoRoom → f ≡ refusal 18 0 (pos n) → Writes P b at b′ (Written.Refused f)
+  apart-left {b} {at} {b′} {f} c g = by (subst (λ (u : List ℕ). Copies u b at b′ Copied.NoRoom) apart-is c)
+    where
+      by : {c : List ℕ} → Copies (t .text) b at c Copied.NoRoom → Writes P b at c (Written.Refused f)
+      by (no-room h) = left-alone (t .text) (t .is) apart-long h g
 
 pub text-wrote : {P : List ℕ → Type 0} {m : ℕ} {b : List ℕ} {at : ℕ} {b′ : List ℕ} {i : ℕ} → at + m ≤ length b → Text P m b at b′ i → Writes P b at b′ (Written.Done i)
 text-wrote h t = wrote (t .is) (omega (arith, t .short)) (t .so)
@@ -279,6 +252,3 @@ text-wrote h t = wrote (t .is) (omega (arith, t .short)) (t .so)
 -- a line with its length
 pub lined : {l : Line} {b : List ℕ} {at : ℕ} {b′ : List ℕ} {i : ℕ} → LineOf l b at b′ i → Text (LineOut l) 132 b at b′ i
 lined t = record { text = t .text; is = record { is = t .is; short = t .short }; short = t .short; so = t .so }
-
-pub copied-to : {t b : List ℕ} {at : ℕ} {b′ : List ℕ} {i : ℕ} → at + length t ≤ length b → So b at t b′ i → Copies t b at b′ (Copied.To i)
-copied-to {t} {b} {at} {b′} {i} h s = subst (λ (x : List ℕ). Copies t b at x (Copied.To i)) (sym (s .is)) (subst (λ (k : ℕ). Copies t b at (put b at t) (Copied.To k)) (sym (s .place)) (copied h))

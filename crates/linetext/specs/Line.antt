@@ -1,15 +1,14 @@
--- A line of the listing: the numbers of a day or of a refusal in columns. And what a writer of it promises.
+-- A line of the listing: the numbers of a day or of a refusal in columns.
 -- Assumes nothing.
-use Prim.Native.Nat.{ℕ, _+_, _≤_, _<_}
+use Prim.Native.Nat.{ℕ, _≤_}
 use mathlib.Core.List.{List, [], _∷_, _++_}
 use lib.ListN.{length}
 use lib.IntN.{ℤ, pos}
 use Rattle.refusals.specs.declared.Refusal.{Refusal}
-use Rattle.writer.specs.Writing.{WholeDecimal, put}
+use Rattle.writer.specs.Writing.{WholeDecimal}
 use Rattle.linetext.specs.declared.Row.{Row}
 use Rattle.linetext.specs.declared.Line.{Line}
 use Rattle.linetext.specs.declared.Line.the-variants as Line′
-use Rattle.linetext.specs.declared.Copied.{Copied}
 
 abbrev pub newline : ℕ
 newline = 10
@@ -44,9 +43,3 @@ pub data Ended (l : Line) : List ℕ → Type 0 where
 pub record LineOut (l : Line) (t : List ℕ) : Type 0 where
   pub is : Ended l t
   pub short : length t ≤ 132
-
--- ---- the text t is copied into the buffer b from `at` on, and the answer tells the place after it; or b is too short for it, and is left as it was
-
-pub data Copies (t b : List ℕ) (at : ℕ) : List ℕ → Copied → Type 0 where
-  copied : at + length t ≤ length b → Copies t b at (put b at t) (Copied.To (at + length t))
-  no-room : length b < at + length t → Copies t b at b Copied.NoRoom

@@ -1,17 +1,14 @@
 -- A line has one text, and two results that a promise allows for one input are equal.
 -- Assumes nothing.
 use Prim.Native.Nat.{ℕ}
-use mathlib.Core.Path.{_≡_, refl, ap, ap₂}
+use mathlib.Core.Path.{_≡_, ap, ap₂}
 use mathlib.Core.List.{List, [], _∷_, _++_}
-use native.Mathlib.Omega.{arith}
 use lib.IntN.{ℤ}
 use Rattle.writer.specs.Writing.{Writes}
-use Rattle.writer.specs.Decimals.{whole-one}
-use Rattle.writer.specs.Theorems.{writes-one}
+use Rattle.writer.specs.Theorems.{whole-one, writes-one}
 use Rattle.writer.specs.declared.Written.{Written}
-use Rattle.linetext.specs.Line.{newline, tab, mark, Columns, LineText, of-row, of-refusal, Ended, ended, LineOut, Copies, copied, no-room}
+use Rattle.linetext.specs.Line.{newline, tab, mark, Columns, LineText, of-row, of-refusal, Ended, ended, LineOut}
 use Rattle.linetext.specs.declared.Line.{Line}
-use Rattle.linetext.specs.declared.Copied.{Copied}
 
 columns-one : {xs : List ℤ} {t u : List ℕ} → Columns xs t → Columns xs u → t ≡ u
 columns-one (Columns.one w) (Columns.one v) = whole-one w v
@@ -26,9 +23,3 @@ ended-one (ended x) (ended y) = ap (λ (t : List ℕ). t ++ (newline ∷ [])) (l
 
 pub put-line-one : {l : Line} {b b₁ b₂ : List ℕ} {at : ℕ} {r₁ r₂ : Written} → Writes (LineOut l) b at b₁ r₁ → Writes (LineOut l) b at b₂ r₂ → (b₁ ≡ b₂) × (r₁ ≡ r₂)
 put-line-one = writes-one (λ t u x y. ended-one (x .is) (y .is))
-
-pub copy-text-one : {t b b₁ b₂ : List ℕ} {at : ℕ} {r₁ r₂ : Copied} → Copies t b at b₁ r₁ → Copies t b at b₂ r₂ → (b₁ ≡ b₂) × (r₁ ≡ r₂)
-copy-text-one (copied h) (copied k) = (refl, refl)
-copy-text-one (copied h) (no-room k) = absurd (omega arith)
-copy-text-one (no-room h) (copied k) = absurd (omega arith)
-copy-text-one (no-room h) (no-room k) = (refl, refl)

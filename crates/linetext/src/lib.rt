@@ -7,12 +7,14 @@ ghost use mathlib.Core.Bool.{false};
 ghost use Prim.Native.Nat.{_+_, _<_, _≤_};
 ghost use lib.ListN.{length};
 ghost use lib.IntN.{pos};
+ghost use Rattle.buffer.specs.Puts.{So};
+ghost use Rattle.decimals.specs.Decimals.{digitsOf};
 ghost use Rattle.writer.specs.Writing.{Writes};
-ghost use Rattle.writer.specs.Decimals.{digitsOf};
-ghost use Rattle.writer.specs.Puts.{So, Signs};
+ghost use Rattle.writer.specs.Puts.{Signs};
 ghost use Rattle.linetext.specs.declared.Line.the-variants.{Row as OfRow, Refusal as OfRefusal};
-ghost use Rattle.linetext.specs.Line.{LineOut, Copies};
+ghost use Rattle.linetext.specs.Line.{LineOut};
 ghost use Rattle.linetext.specs.Laws.{Text, Column, CellsOf, LineOf};
+use buffer::Copied;
 use refusals::Refusal;
 use writer::Written;
 
@@ -206,20 +208,7 @@ fn put_either(out: &mut [u8], at: usize, line: Line) -> usize
     }
 }
 
-// ---- texts with or without room for them
-
-// All of a text.
-fn put_bytes(out: &mut [u8], at: usize, text: &[u8]) -> usize
-    requires { ⌜ at + length (now text) ≤ length (now out) ⌝ }
-    ensures { λ r. ⌜ So (now (out .entry)) at (now (text .entry)) (now (out .exit)) r ⌝ }
-{
-    let mut i: usize = 0;
-    while i < text.len() {
-        out[at + i] = text[i];
-        i += 1;
-    }
-    at + text.len()
-}
+// ---- a line with or without room for it
 
 // Where room is not sure, the text is made apart first, so that a buffer too short for it stays as it was.
 fn put_apart(out: &mut [u8], at: usize, line: Line) -> Written
@@ -227,37 +216,19 @@ fn put_apart(out: &mut [u8], at: usize, line: Line) -> Written
 {
     let mut apart = [0u8; 132];
     let size = put_either(&mut apart, 0, line);
-    if writer::has_room(out.len(), at, size) {
-        let end = put_bytes(out, at, &apart[..size]);
-        return Written::Done(end);
+    match buffer::copy_text(out, at, &apart[..size]) {
+        Copied::To(end) => Written::Done(end),
+        Copied::NoRoom => Written::Refused(numbertext::refusal(18, 0, size as u32)),
     }
-    Written::Refused(numbertext::refusal(18, 0, size as u32))
 }
 
 // The line, with its newline.
 pub fn put_line(out: &mut [u8], at: usize, line: Line) -> Written
     ensures { λ r. ⌜ Writes (LineOut line) (now (out .entry)) at (now (out .exit)) r ⌝ }
 {
-    if writer::has_room(out.len(), at, 132) {
+    if buffer::has_room(out.len(), at, 132) {
         let end = put_either(out, at, line);
         return Written::Done(end);
     }
     put_apart(out, at, line)
-}
-
-// Whether a text had room.
-pub enum Copied {
-    To(usize),
-    NoRoom,
-}
-
-// Bytes as they stand: the answer tells the place after them.
-pub fn copy_text(out: &mut [u8], at: usize, text: &[u8]) -> Copied
-    ensures { λ r. ⌜ Copies (now (text .entry)) (now (out .entry)) at (now (out .exit)) r ⌝ }
-{
-    if writer::has_room(out.len(), at, text.len()) {
-        let end = put_bytes(out, at, text);
-        return Copied::To(end);
-    }
-    Copied::NoRoom
 }

@@ -1,76 +1,24 @@
--- Texts put into a buffer: one after another, a byte, and digits from the last to the first; and what a writer that has done so promises.
+-- Numbers and dates put into a buffer: digits from the last to the first, and texts one after another; and what a writer that has done so promises.
 -- Assumes nothing.
 use Prim.Native.Nat.{ℕ, suc, _+_, _-_, _/_, _%_, _≤_, _<_}
-use mathlib.Core.Path.{_≡_, refl, sym, _∙_, ap, ap₂, subst}
+use mathlib.Core.Path.{_≡_, refl, sym, _∙_, ap, subst}
 use mathlib.Core.Bool.{Bool, true, false}
 use mathlib.Core.List.{List, [], _∷_, _++_, append-assoc}
-use native.Mathlib.Nat.{add-zero}
 use native.Mathlib.Omega.{arith}
-use lib.ListN.{length, take, drop, set, length-set, length-append, length-take, length-drop, take-append-drop}
-use lib.Seq.{take-set-le, drop-set-lt, drop-cons, getD-set-same, take-at, drop-append-add, drop-drop, length-take-le}
+use lib.ListN.{length, set, length-set, length-append}
 use lib.Dec.{leb}
-use mathlib.Core.Logic.{⊎-elim}
-use borrow.Author.Tests.{le-leb, lt-leb, leb-true, leb-false}
-use Rattle.whole.specs.Tests.{lt-or-ge}
+use borrow.Author.Tests.{leb-true, leb-false}
 use lib.IntN.{ℤ, pos, negsuc, natAbs}
 use Rattle.refusals.specs.declared.Refusal.{Refusal}
-use Rattle.whole.specs.Edge.{isNegative}
 use Rattle.refusals.specs.Refusals.{refusal}
+use Rattle.whole.specs.Edge.{isNegative}
 use Rattle.digits.specs.Numerals.{dash}
-use Rattle.writer.specs.Writing.{Decimal, WholeDecimal, YmdDecimal, put, Puts, Writes, PutNumber, PutWhole, WriteYmd}
-use Rattle.writer.specs.Decimals.{digitsOf, length-digits, Width, decimal-of}
+use Rattle.buffer.specs.Buffer.{put}
+use Rattle.buffer.specs.Puts.{put-none, put-before, put-byte, So, so-on}
+use Rattle.decimals.specs.Decimal.{Decimal}
+use Rattle.decimals.specs.Decimals.{digitsOf, length-digits, Width, decimal-of}
+use Rattle.writer.specs.Writing.{WholeDecimal, YmdDecimal, Puts, Writes, PutNumber, PutWhole, WriteYmd}
 use Rattle.writer.specs.declared.Written.{Written}
-
--- ---- a buffer
-
-pub put-none : (b : List ℕ) (i : ℕ) → put b i [] ≡ b
-put-none b i = ap (λ (k : ℕ). take i b ++ drop k b) (add-zero i) ∙ take-append-drop i b
-
-pub length-put : (b : List ℕ) (i : ℕ) (t : List ℕ) → i + length t ≤ length b → length (put b i t) ≡ length b
-length-put b i t h = simp (length-append, length-take, length-drop) (omega arith)
-
--- a text, and another after it
-module _ (b : List ℕ) (i : ℕ) (t u : List ℕ) (h : i + length t ≤ length b) where
-  put-as : put b i t ≡ (take i b ++ t) ++ drop (i + length t) b
-  put-as = sym (append-assoc (take i b) t (drop (i + length t) b))
-
-  put-long : length (take i b ++ t) ≡ i + length t
-  put-long = length-append (take i b) t ∙ ap (λ (k : ℕ). k + length t) (length-take-le i b (omega arith))
-
-  after-both : i + length t + length u ≡ i + length (t ++ u)
-  after-both = omega (arith, length-append t u)
-
-  pub put-then : put (put b i t) (i + length t) u ≡ put b i (t ++ u)
-  put-then =
-      ap₂ (λ (x y : List ℕ). x ++ (u ++ y))
-      (ap (take (i + length t)) put-as ∙ take-at (take i b ++ t) (drop (i + length t) b) (i + length t) put-long)
-      (ap (drop (i + length t + length u)) put-as
-      ∙ ap (λ (k : ℕ). drop (k + length u) ((take i b ++ t) ++ drop (i + length t) b)) (sym put-long)
-      ∙ drop-append-add (take i b ++ t) (drop (i + length t) b) (length u)
-      ∙ drop-drop (length u) (i + length t) b
-      ∙ ap (λ (k : ℕ). drop k b) after-both)
-      ∙ append-assoc (take i b) t (u ++ drop (i + length (t ++ u)) b)
-      ∙ ap (λ (x : List ℕ). take i b ++ x) (sym (append-assoc t u (drop (i + length (t ++ u)) b)))
-
--- a byte after a text: it may be put there first
-module _ (b : List ℕ) (i : ℕ) (t : List ℕ) (x : ℕ) (h : i + length t < length b) where
-  after : drop (i + length t) (set b (i + length t) x) ≡ x ∷ drop (i + length (t ++ (x ∷ []))) b
-  after =
-      drop-cons (set b (i + length t) x) (i + length t) 0 (subst (λ (k : ℕ). i + length t < k) (sym (length-set b (i + length t) x)) h)
-      ∙ ap₂ (λ (y : ℕ) (l : List ℕ). y ∷ l) (getD-set-same b (i + length t) x 0 h)
-      (drop-set-lt (suc (i + length t)) b (i + length t) x (omega arith) ∙ ap (λ (k : ℕ). drop k b) one-on)
-    where
-      one-on : suc (i + length t) ≡ i + length (t ++ (x ∷ []))
-      one-on = omega (arith, length-append t (x ∷ []))
-
-  pub put-before : put (set b (i + length t) x) i t ≡ put b i (t ++ (x ∷ []))
-  put-before =
-      ap₂ (λ (u w : List ℕ). u ++ (t ++ w)) (take-set-le i b (i + length t) x (omega arith)) after
-      ∙ ap (λ (l : List ℕ). take i b ++ l) (sym (append-assoc t (x ∷ []) (drop (i + length (t ++ (x ∷ []))) b)))
-
-pub put-byte : (b : List ℕ) (i x : ℕ) → i < length b → set b i x ≡ put b i (x ∷ [])
-put-byte b i x h =
-    sym (put-none (set b i x) i) ∙ ap (λ (k : ℕ). put (set b k x) i []) (sym (add-zero i)) ∙ put-before b i [] x (omega arith)
 
 -- ---- the loop that puts digits from the last to the first: what is still to be put takes b to the whole
 
@@ -133,19 +81,6 @@ length-ymd neg ky n km m kd d =
 
 pub ymd-text : (y : ℤ) (m d ky km kd : ℕ) → Width (natAbs y) ky → Width m km → Width d kd → YmdDecimal (ymdText (isNegative y) ky (natAbs y) km m kd d) y m d
 ymd-text y m d ky km kd wy wm wd = YmdDecimal.ymd-decimal (whole-text y ky wy) (decimal-of wm) (decimal-of wd)
-
--- ---- texts one after the other, from a place of b on
-
-pub record So (b : List ℕ) (at : ℕ) (t b′ : List ℕ) (i : ℕ) : Type 0 where
-  pub is : b′ ≡ put b at t
-  pub place : i ≡ at + length t
-
-pub so-on : {b : List ℕ} {at : ℕ} {t b′ : List ℕ} {i : ℕ} → So b at t b′ i → (u : List ℕ) {c : List ℕ} {j : ℕ} → at + length t + length u ≤ length b → So b′ i u c j → So b at (t ++ u) c j
-so-on {b} {at} {t} {b′} {i} s u {c} {j} h r =
-    record {
-      is = r .is ∙ ap₂ (λ (x : List ℕ) (k : ℕ). put x k u) (s .is) (s .place) ∙ put-then b at t u (omega arith);
-      place = r .place ∙ omega (arith, s .place, length-append t u);
-    }
 
 -- ---- what a writer promises
 
@@ -211,15 +146,6 @@ as-whole {x} {neg} {n} e h = writes-as (λ t s. by t (subst (λ (i : ℕ). Signs
     by t (Signs.signs {k} w) = whole-text x k w
 
 -- ---- the tests of the code
-
-pub room-test : (len at size : ℕ) → at ≤ len → leb size (len - at) ≡ leb (at + size) len
-room-test len at size h = ⊎-elim
-    (λ k. lt-leb size (len - at) (omega arith) ∙ sym (lt-leb (at + size) len k))
-    (λ k. le-leb size (len - at) (omega arith) ∙ sym (le-leb (at + size) len k))
-    (lt-or-ge len (at + size))
-
-pub no-room-test : (len at size : ℕ) → len < at → false ≡ leb (at + size) len
-no-room-test len at size h = sym (lt-leb (at + size) len (omega arith))
 
 -- a number that has room, or not, where `room` is the test
 module _ (neg : Bool) (n k size at : ℕ) (b : List ℕ) {room : Bool} (w : Width n k) (s : size ≡ wholeWidth neg k) (test : room ≡ leb (at + size) (length b)) where

@@ -1,7 +1,7 @@
 -- THE THEOREMS ON WRITTEN TEXTS: two results that the promise of a writer allows are one; where a date's text stands, and how long it is at most.
 -- Assumes nothing.
 use Prim.Native.Nat.{ℕ, _+_, _≤_, _<_, _^_}
-use mathlib.Core.Path.{_≡_, refl, sym, _∙_, ap, subst}
+use mathlib.Core.Path.{_≡_, refl, sym, _∙_, ap, ap₂, subst}
 use mathlib.Core.Bool.{Bool, true, false}
 use mathlib.Core.List.{List, _∷_, _++_}
 use native.Mathlib.Nat.{zero-add}
@@ -10,10 +10,21 @@ use lib.ListN.{length, take, drop, length-append}
 use lib.Seq.{take-append-seam}
 use lib.IntN.{ℤ, natAbs}
 use Rattle.digits.specs.Numerals.{dash}
-use Rattle.writer.specs.Writing.{WholeDecimal, YmdDecimal, put, Puts, Writes, PutNumber, PutWhole, WriteYmd}
-use Rattle.writer.specs.Decimals.{decimal-of, decimal-one, whole-one, ymd-one, decimal-short}
+use Rattle.buffer.specs.Buffer.{put}
+use Rattle.decimals.specs.Decimals.{decimal-of, decimal-one, decimal-short}
+use Rattle.writer.specs.Writing.{WholeDecimal, YmdDecimal, Puts, Writes, PutNumber, PutWhole, WriteYmd}
 use Rattle.writer.specs.Puts.{wholeText, Signs}
 use Rattle.writer.specs.declared.Written.{Written}
+
+-- ---- a number and a date have one text
+
+pub whole-one : {p q : List ℕ} {y : ℤ} → WholeDecimal p y → WholeDecimal q y → p ≡ q
+whole-one (WholeDecimal.not-negative d) (WholeDecimal.not-negative e) = decimal-one d e
+whole-one (WholeDecimal.negative d) (WholeDecimal.negative e) = ap (λ (x : List ℕ). dash ∷ x) (decimal-one d e)
+
+pub ymd-one : {p q : List ℕ} {y : ℤ} {m d : ℕ} → YmdDecimal p y m d → YmdDecimal q y m d → p ≡ q
+ymd-one (YmdDecimal.ymd-decimal a b c) (YmdDecimal.ymd-decimal a′ b′ c′) =
+    ap₂ (λ (x y : List ℕ). x ++ (dash ∷ y)) (whole-one a a′) (ap₂ (λ (x y : List ℕ). x ++ (dash ∷ y)) (decimal-one b b′) (decimal-one c c′))
 
 -- ---- each promise allows one result
 

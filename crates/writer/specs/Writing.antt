@@ -1,18 +1,14 @@
 -- What is written: numbers and dates with no padding and a `-` before a negative number, at a place of a lent buffer; and what a writer promises.
 -- Assumes nothing.
 use Prim.Native.Nat.{ℕ, suc, _+_, _≤_, _<_}
-use mathlib.Core.Path.{_≡_}
 use mathlib.Core.List.{List, _∷_, _++_}
-use lib.ListN.{length, getD, take, drop}
+use lib.ListN.{length}
 use lib.IntN.{ℤ, pos, negsuc}
 use Rattle.refusals.specs.Refusals.{refusal}
-use Rattle.digits.specs.Numerals.{dash, Numeral}
+use Rattle.digits.specs.Numerals.{dash}
+use Rattle.buffer.specs.Buffer.{put}
+use Rattle.decimals.specs.Decimal.{Decimal}
 use Rattle.writer.specs.declared.Written.{Written}
-
--- digits that write n with no padding: a '0' stands first only where it stands alone
-pub record Decimal (p : List ℕ) (n : ℕ) : Type 0 where
-  pub numeral : Numeral p n
-  pub unpadded : getD p 0 0 ≡ 48 → length p ≡ 1
 
 -- a whole number, with a `-` where it is negative
 pub data WholeDecimal : List ℕ → ℤ → Type 0 where
@@ -22,10 +18,6 @@ pub data WholeDecimal : List ℕ → ℤ → Type 0 where
 -- year, month and day
 pub data YmdDecimal : List ℕ → ℤ → ℕ → ℕ → Type 0 where
   ymd-decimal : {p q t : List ℕ} {y : ℤ} {m d : ℕ} → WholeDecimal p y → Decimal q m → Decimal t d → YmdDecimal (p ++ (dash ∷ (q ++ (dash ∷ t)))) y m d
-
--- the buffer b with t in it from `at` on, and every other byte as it was
-abbrev pub put : List ℕ → ℕ → List ℕ → List ℕ
-put b at t = take at b ++ (t ++ drop (at + length t) b)
 
 -- The text t is to be written from `at` on. It is, and the answer tells the place after it, which for a text at the front is its length; or the buffer is
 -- too short for it, and is left as it was.

@@ -4,37 +4,15 @@ ghost use mathlib.Core.Path.{_≡_};
 ghost use mathlib.Core.Bool.{true};
 ghost use Prim.Native.Nat.{_+_, _≤_};
 ghost use lib.ListN.{length};
-ghost use lib.Dec.{leb};
 ghost use Rattle.writer.specs.Writing.{Writes, PutNumber, PutWhole, WriteYmd};
-ghost use Rattle.writer.specs.Decimals.{digitsOf, Width};
-ghost use Rattle.writer.specs.Puts.{So, wholeText, wholeWidth, Signs};
+ghost use Rattle.buffer.specs.Puts.{So};
+ghost use Rattle.decimals.specs.Decimals.{digitsOf};
+ghost use Rattle.writer.specs.Puts.{wholeText, wholeWidth, Signs};
 use refusals::Refusal;
 
 pub enum Written {
     Done(usize),
     Refused(Refusal),
-}
-
-// How many digits a number has. They are counted four at a time, since most numbers in a text have fewer than five.
-fn width(n: u64) -> usize
-    ensures { λ r. ⌜ (Width n r) × (r ≤ 20) ⌝ }
-{
-    let mut rest = n;
-    let mut k: usize = 0;
-    while 10_000 <= rest {
-        rest = rest / 10_000;
-        k += 4;
-    }
-    if rest < 10 {
-        return k + 1;
-    }
-    if rest < 100 {
-        return k + 2;
-    }
-    if rest < 1000 {
-        return k + 3;
-    }
-    k + 4
 }
 
 // The last k digits of n from `at` on, and the place after them.
@@ -80,22 +58,12 @@ fn signed_width(negative: bool, k: usize) -> usize
     if negative { k + 1 } else { k }
 }
 
-// Whether a text of `size` bytes has room from `at` on.
-pub fn has_room(len: usize, at: usize, size: usize) -> bool
-    ensures { λ r. ⌜ r ≡ leb (at + size) len ⌝ }
-{
-    if len < at {
-        return false;
-    }
-    size <= len - at
-}
-
 pub fn put_at(buf: &mut [u8], at: usize, negative: bool, n: u64) -> Written
     ensures { λ r. ⌜ Writes (Signs negative n) (now (buf .entry)) at (now (buf .exit)) r ⌝ }
 {
-    let k = width(n);
+    let k = decimals::width(n);
     let size = signed_width(negative, k);
-    if has_room(buf.len(), at, size) {
+    if buffer::has_room(buf.len(), at, size) {
         let end = put_signed(buf, at, negative, n, k);
         return Written::Done(end);
     }
@@ -124,11 +92,11 @@ pub fn write_ymd(buf: &mut [u8], year: i32, month: u32, day: u32) -> Written
     let x = whole::widened(year);
     let negative = whole::is_negative(x);
     let n = whole::magnitude(x);
-    let ky = width(n);
+    let ky = decimals::width(n);
     let m = month as u64;
-    let km = width(m);
+    let km = decimals::width(m);
     let d = day as u64;
-    let kd = width(d);
+    let kd = decimals::width(d);
     let size = signed_width(negative, ky) + km + kd + 2;
     if buf.len() < size {
         return Written::Refused(numbertext::refusal(18, 0, size as u32));

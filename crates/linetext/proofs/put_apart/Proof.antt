@@ -1,8 +1,6 @@
 -- `linetext::put_apart` meets its contract: the text stands at the front of a buffer of its own, from where it is copied, or it has no room.
 -- Assumes nothing.
-use Rattle.linetext.specs.Laws.{lined, apart-part, apart-room, apart-done, apart-left}
-use borrow.Author.Tests.{leb-true, leb-false}
-use mathlib.Core.Path.{sym, _∙_}
+use Rattle.linetext.specs.Laws.{lined, apart-part, apart-done, apart-left}
 use borrow.Author.Needs.{needs}
 use Rattle.linetext.proofs.put_apart.Statement.{statement}
 use Rattle.linetext.proofs.put_apart.Tie as tie
@@ -13,23 +11,20 @@ slice-aggregate-put-either c = search needs
 put-either-requires : tie.Need-put-either-requires
 put-either-requires c κs = search needs
 
-has-room-requires : tie.Need-has-room-requires
-has-room-requires c κs = search needs
-
 array-share-prefix-apart : tie.Need-array-share-prefix-apart
 array-share-prefix-apart c = search needs
 
-slice-aggregate-put-bytes : tie.Need-slice-aggregate-put-bytes
-slice-aggregate-put-bytes c = apart-part (lined (c .before .before .before .before .before .put-either .ensures))
+slice-aggregate-copy-text : tie.Need-slice-aggregate-copy-text
+slice-aggregate-copy-text c = apart-part (lined (c .before .before .before .put-either .ensures))
 
-put-bytes-requires : tie.Need-put-bytes-requires
-put-bytes-requires c κs = apart-room (lined (c .before .before .before .before .before .put-either .ensures)) _ _ (leb-true _ _ (sym (c .before .before .before .has-room .ensures) ∙ c .before .before .if1 .taken))
+copy-text-requires : tie.Need-copy-text-requires
+copy-text-requires c κs = search needs
 
-same-length : tie.Need-same-length
-same-length c = search needs
+enum-known-end : tie.Need-enum-known-end
+enum-known-end c = search needs
 
-returns : tie.Need-returns
-returns c = apart-done (lined (c .before .before .before .before .before .before .before .before .put-either .ensures)) (leb-true _ _ (sym (c .before .before .before .before .before .before .has-room .ensures) ∙ c .before .before .before .before .before .if1 .taken)) (c .before .before .put-bytes .ensures)
+enum-told : tie.Need-enum-told
+enum-told c = search needs
 
 cast-refusal : tie.Need-cast-refusal
 cast-refusal c = search needs
@@ -37,8 +32,17 @@ cast-refusal c = search needs
 refusal-requires : tie.Need-refusal-requires
 refusal-requires c κs = search needs
 
+same-length : tie.Need-same-length
+same-length c = search needs
+
+returns : tie.Need-returns
+returns c = apart-done (lined (c .before .before .before .before .before .before .before .before .before .put-either .ensures)) (rw (c .before .end .given .1) at (c .before .before .before .before .before .copy-text .ensures))
+
+same-length-2 : tie.Need-same-length-2
+same-length-2 c = search needs
+
 returns-2 : tie.Need-returns-2
-returns-2 c = apart-left (lined (c .before .before .before .before .put-either .ensures)) (leb-false _ _ (sym (c .before .before .has-room .ensures) ∙ c .before .if1 .left)) (c .refusal .ensures)
+returns-2 c = apart-left (lined (c .before .before .before .before .before .before .before .before .before .put-either .ensures)) (rw (c .before .enum-told .given .1) at (c .before .before .before .before .before .copy-text .ensures)) (c .refusal .ensures)
 
 pub put-apart-spec : {M : Type 1} → statement M
 put-apart-spec =
@@ -46,12 +50,14 @@ put-apart-spec =
     (tie.spec
     slice-aggregate-put-either
     put-either-requires
-    has-room-requires
     array-share-prefix-apart
-    slice-aggregate-put-bytes
-    put-bytes-requires
-    same-length
-    returns
+    slice-aggregate-copy-text
+    copy-text-requires
+    enum-known-end
+    enum-told
     cast-refusal
     refusal-requires
+    same-length
+    returns
+    same-length-2
     returns-2)

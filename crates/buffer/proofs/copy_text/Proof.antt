@@ -1,12 +1,12 @@
--- `linetext::copy_text` meets its promise.
+-- `buffer::copy_text` meets its promise.
 -- Assumes nothing.
-use Rattle.linetext.specs.Laws.{copied-to}
-use Rattle.linetext.specs.Line.{no-room}
+use Rattle.buffer.specs.Puts.{copied-to}
+use Rattle.buffer.specs.Buffer.{no-room}
 use borrow.Author.Tests.{leb-true, leb-false}
 use mathlib.Core.Path.{sym, _∙_}
 use borrow.Author.Needs.{needs}
-use Rattle.linetext.proofs.copy_text.Statement.{statement}
-use Rattle.linetext.proofs.copy_text.Tie as tie
+use Rattle.buffer.proofs.copy_text.Statement.{statement}
+use Rattle.buffer.proofs.copy_text.Tie as tie
 
 has-room-requires : tie.Need-has-room-requires
 has-room-requires c κs = search needs

@@ -1,11 +1,11 @@
--- `linetext::put_bytes` meets its contract. The loop's invariant is `Copying`: the first bytes of the text stand in the buffer. The measure is how many are left.
+-- `buffer::put_bytes` meets its contract. The loop's invariant is `Copying`: the first bytes of the text stand in the buffer. The measure is how many are left.
 -- Assumes nothing.
-use Rattle.linetext.specs.Laws.{Copying, copying-start, copying-on, copying-done}
+use Rattle.buffer.specs.Puts.{Copying, copying-start, copying-on, copying-done}
 use native.Mathlib.Omega.{arith}
 use Prim.Native.Nat.{_-_}
 use lib.ListN.{length}
-use Rattle.linetext.proofs.put_bytes.Statement.{statement}
-use Rattle.linetext.proofs.put_bytes.Tie as tie
+use Rattle.buffer.proofs.put_bytes.Statement.{statement}
+use Rattle.buffer.proofs.put_bytes.Tie as tie
 
 abbrev Inv-loop : tie.InvT-loop
 Inv-loop out₀ at text i₀ out i = Copying out₀ at text out i

@@ -7,10 +7,9 @@ use mathlib.Core.Logic.{⊎-elim}
 use native.Mathlib.Nat.{pow-zero, pow-suc, pow-le-pow-right, mod-lt, div-add-mod', div-lt-iff-lt-mul, le-div-iff-mul-le, mul-le-mul-right, mul-assoc, mul-comm, one-mul}
 use native.Mathlib.Omega.{arith}
 use lib.ListN.{length, getD, length-append}
-use lib.IntN.{ℤ}
 use Rattle.whole.specs.Tests.{lt-or-ge}
-use Rattle.digits.specs.Numerals.{dash, valueFrom, valueOf, Digit, Digits, Numeral}
-use Rattle.writer.specs.Writing.{Decimal, WholeDecimal, YmdDecimal}
+use Rattle.digits.specs.Numerals.{valueFrom, valueOf, Digit, Digits, Numeral}
+use Rattle.decimals.specs.Decimal.{Decimal}
 
 -- the last k digits of n
 abbrev pub digitsOf : ℕ → ℕ → List ℕ
@@ -146,13 +145,9 @@ decimal-one {p} {q} {n} d e = ⊎-elim
     (λ h. ⊎-elim (λ k. absurd (no-longer (e .numeral) d k)) (λ k. same-digits (d .numeral .digits) (e .numeral .digits) (omega arith) 0 0 (d .numeral .writes ∙ sym (e .numeral .writes)) .1) (lt-or-ge (length q) (length p)))
     (lt-or-ge (length p) (length q))
 
-pub whole-one : {p q : List ℕ} {y : ℤ} → WholeDecimal p y → WholeDecimal q y → p ≡ q
-whole-one (WholeDecimal.not-negative d) (WholeDecimal.not-negative e) = decimal-one d e
-whole-one (WholeDecimal.negative d) (WholeDecimal.negative e) = ap (λ (x : List ℕ). dash ∷ x) (decimal-one d e)
-
-pub ymd-one : {p q : List ℕ} {y : ℤ} {m d : ℕ} → YmdDecimal p y m d → YmdDecimal q y m d → p ≡ q
-ymd-one (YmdDecimal.ymd-decimal a b c) (YmdDecimal.ymd-decimal a′ b′ c′) =
-    ap₂ (λ (x y : List ℕ). x ++ (dash ∷ y)) (whole-one a a′) (ap₂ (λ (x y : List ℕ). x ++ (dash ∷ y)) (decimal-one b b′) (decimal-one c c′))
+-- and one width
+pub width-one : {n k j : ℕ} → Width n k → Width n j → k ≡ j
+width-one {n} {k} {j} v w = sym (length-digits k n) ∙ ap length (decimal-one (decimal-of v) (decimal-of w)) ∙ length-digits j n
 
 -- ---- how long it is
 
