@@ -28,6 +28,7 @@ use Rattle.writer.specs.Theorems as W
 use Rattle.writer.specs.declared.Written.{Written}
 use Rattle.datetext.specs.Grammar.{Month, OrdinalText, YmdText}
 use Rattle.datetext.specs.Theorems as T
+use Rattle.dateparse.specs.ReadBack.{written-writes}
 use Rattle.dateparse.specs.Promise.{placedAt, ByText, by-fault, by-ordinal, by-ymd, ParseDate, WriteDate}
 
 -- ---- Each promise allows one result
@@ -127,7 +128,7 @@ module _ (d : Date) (g : Genuine d) (f : Is32Bit (d .jdn)) where
 
   pub reads-back : {t : List ℕ} {a : Dated} → YmdDecimal t (d .year) (d .month) (d .day) → ParseDate (d .calendar) t a → a ≡ Dated′.Date d
   reads-back w p =
-      let (k, x) = T.written-writes w (year-fits from to) (date-month d g) (omega (arith, day-most)) in
+      let (k, x) = written-writes w (year-fits from to) (date-month d g) (omega (arith, day-most)) in
       let (t, e, i) = accepts (d .calendar) (g .accepted) f (says-ymd x (g .is-record .label-is)) p in
       e ∙ ap Dated′.Date (record-one (d .calendar) i (g .is-record))
 

@@ -1,0 +1,92 @@
+// The listing: lines of a register in, lines of numbers out. A line is a calendar name, a tab and a date text; what is written for it is
+// the day that it comes to, or its refusal. Input comes in blocks that end anywhere, and what is between two blocks is a value.
+
+ghost use Prim.Native.Nat.{_+_, _<_, _≤_};
+ghost use lib.ListN.{length};
+ghost use Rattle.writer.specs.Writing.{Writes};
+ghost use Rattle.heldline.specs.Held.{HeldLine};
+ghost use Rattle.listing.specs.Lines.{Listed};
+ghost use Rattle.listing.specs.Blocks.{Wrote, stand, Turn, Lists};
+pub use columns::put_header;
+pub use heldline::list_last;
+use writer::Written;
+
+// The text of its answer, with a newline.
+pub fn list_line(line: &[u8], out: &mut [u8], at: usize) -> Written
+    ensures { λ r. ⌜ Writes (Listed (now (line .entry))) (now (out .entry)) at (now (out .exit)) r ⌝ }
+{
+    linetext::put_line(out, at, columns::line_of(entry::line_answer(line)))
+}
+
+// How far a block is read, how many bytes of an unfinished line are held, and how far the output is written.
+pub struct Progress {
+    pub at: usize,
+    pub held: usize,
+    pub used: usize,
+}
+
+// What is written for the line that is held, where there is room for it.
+fn put_held(line: &[u8; 512], held: usize, out: &mut [u8], at: usize) -> usize
+    requires { ⌜ at + 132 ≤ length (now out) ⌝ }
+    ensures { λ r. ⌜ Wrote (HeldLine (now (line .entry)) held) (now (out .entry)) at (now (out .exit)) r ⌝ }
+{
+    match linetext::put_line(out, at, heldline::held_line(line, held)) {
+        Written::Done(next) => next,
+        Written::Refused(_) => at,
+    }
+}
+
+// One line of the block, or what the block has of it.
+fn turn(
+    block: &[u8],
+    at: usize,
+    line: &mut [u8; 512],
+    held: usize,
+    out: &mut [u8],
+    used: usize,
+) -> Progress
+    requires { ⌜ (at < length (now block)) × (used + 132 ≤ length (now out)) ⌝ }
+    ensures { λ p. ⌜ Turn (now (block .entry)) (stand at (now (line .entry)) held (now (out .entry)) used) (stand (p .at) (now (line .exit)) (p .held) (now (out .exit)) (p .used)) ⌝ }
+{
+    let end = bytesearch::up_to(block, at, 10);
+    let n = heldline::fill(line, held, &block[at..end]);
+    if end < block.len() {
+        let next = put_held(line, n, out, used);
+        return Progress {
+            at: end + 1,
+            held: 0,
+            used: next,
+        };
+    }
+    Progress {
+        at: end,
+        held: n,
+        used,
+    }
+}
+
+// Lists the lines of a block from a place on, as long as the output has room. What is held of a line goes on from block to block.
+pub fn list_block(
+    block: &[u8],
+    from: usize,
+    line: &mut [u8; 512],
+    held: usize,
+    out: &mut [u8],
+    used: usize,
+) -> Progress
+    ensures { λ p. ⌜ Lists (now (block .entry)) (stand from (now (line .entry)) held (now (out .entry)) used) (stand (p .at) (now (line .exit)) (p .held) (now (out .exit)) (p .used)) ⌝ }
+{
+    let mut p = Progress {
+        at: from,
+        held,
+        used,
+    };
+    while p.at < block.len() {
+        if buffer::has_room(out.len(), p.used, 132) {
+            p = turn(block, p.at, line, p.held, out, p.used);
+        } else {
+            return p;
+        }
+    }
+    p
+}
