@@ -14,6 +14,7 @@ use Rattle.days.specs.DayByDay as D
 use Rattle.days.specs.DayByDay.{AcceptedReformation, label, Borne, OfYear, Place, Ordinal, DayOrdinal, Is32Bit, Style, JulianStyle, GregorianStyle, style}
 use Rattle.days.specs.Rising.{days-one}
 use Rattle.days.specs.Held.{dayBias, day, year, HeldYear}
+use Rattle.days.specs.Year.{year-most}
 use Rattle.days.specs.Spans.{Stretch}
 use Rattle.days.specs.Starts.{Spot}
 use Rattle.days.specs.Julian as J
@@ -24,8 +25,9 @@ use Rattle.days.specs.Table.{accepts-only, fits-held}
 use Rattle.days.specs.Calendars.{skipped-nowhere}
 use Rattle.days.specs.Runs.{Runs, reforming-runs, firstDay, first-cases, first-julian, yearFirst, monthFirst, julianMonth, gregorianMonth, year-plain, month-plain, year-stretch, ordinal-at, day-ordinal-at, on-old, on-new, in-gap, on-none}
 use Rattle.inner.specs.Natural.{heldDay, heldYear, Lowers, within, beyond}
-use Rattle.monthdays.specs.Promise.{OrdinalOf}
-use Rattle.inner.specs.Laws.{held-day}
+use Rattle.monthdays.specs.Promise.{MonthDayAt, OrdinalOf}
+use Rattle.inner.specs.Laws.{held-day, julian-alone, gregorian-alone, spot-of-year}
+use Rattle.monthdays.specs.Laws.{month-day-in}
 use Rattle.inner.specs.declared.DayNumber.{DayNumber}
 use Rattle.inner.specs.declared.DayNumber.the-variants as DayNumber′
 use Rattle.monthdays.specs.declared.DayOrdinal.the-variants as DayOrdinal′
@@ -45,15 +47,12 @@ use Rattle.inner.specs.Spots.{At, spot, at-number, at-from, at-few}
 use Rattle.changeover.specs.declared.Found.the-variants as Found′
 use Rattle.changeover.specs.Spots.{YearSpan, Finds, finds-old, finds-new, finds-gap, finds-none}
 use Rattle.changeover.specs.Laws.{starts-close, ordinal-sum}
-use Rattle.labels.specs.Labels.{LabelledAt, old, new, OnSpot}
-use Rattle.neighbours.specs.declared.Neighbour.the-variants as Neighbour′
-use Rattle.neighbours.specs.Neighbours.{IsNeighbour, there, outside}
 use Rattle.refusals.specs.declared.Refusal.{Refusal}
 use Rattle.calendar.specs.Calendars.{meant, labels, Accepted, IsRecord, Genuine, sameStyle, styleIs}
 use Rattle.calendar.specs.Rows.{refuses, passes}
 use Rattle.calendar.specs.Promise.{refused, refusedReformation, Reforms, judged, Month, RecordOf, record-of, Given, ByLabel, on-label, ByOrdinal, OffYear, on-ordinal, AtJdn, IsGenuine, Next, ConvertsTo}
 use Rattle.calendar.specs.One.{whole, record-one}
-use Rattle.calendar.specs.Natural.{SwitchIs, switches-at, no-calendar, OfALabel, plainRecord, fieldsOf}
+use Rattle.calendar.specs.Natural.{SwitchIs, switches-at, no-calendar, InYear, LabelledAt, old, new, OnSpot, OfALabel, plainRecord, SpotAt, fieldsOf}
 
 -- ---- Where a calendar goes over
 pub switch-accepted : {r : ℤ} {k : ℕ} → Judges r (Judgement′.Accepted k) → SwitchIs (Reforming r) (Switch′.At k)
@@ -64,6 +63,13 @@ switch-refused {r} j = no-calendar not
   where
     not : ¬ Accepted (Reforming r)
     not (D.reforming-accepted a) = refused-not j (all-three a)
+
+-- ---- A day in its reckoning
+-- its ordinal, month and day by arithmetic
+pub at-spot : {leapAt : ℕ → Bool} {start : ℕ → ℕ} {k y m d o : ℕ} → HeldYear y → Spot leapAt start k y o → MonthDayAt (leapAt y) o m d → At leapAt start k y m d o
+at-spot h p q =
+    let (v, f, t) = month-day-in (p .from) (p .to) q in
+    record { held = h; there = (v .0, v .1, f, t); ordinal-is = q .day-is; adds = p .adds }
 
 -- ---- A day in its calendar
 module _ (c : Calendar) {r : ℕ} (runs : Runs (meant c) r) {k y m d o : ℕ} where
@@ -235,16 +241,21 @@ module _ (c : Calendar) {r : ℕ} (runs : Runs (meant c) r) (y o : ℕ) {a b : �
   off-high n = off-by (inr n)
 
   module _ (u : 1 ≤ o) (v : a + o ≤ b) where
-    of-its-year : OfYear (year (heldYear y)) (labels c (day (a + o - 1)))
-    of-its-year = days-of .inside (a + o - 1) (omega (arith, s .first-is)) (omega (arith, s .past-is))
+    pub in-year-at : InYear c r y (a + o - 1)
+    in-year-at = record {
+      runs = runs;
+      year-held = h;
+      of-year = days-of .inside (a + o - 1) (omega (arith, s .first-is)) (omega (arith, s .past-is));
+      room = omega (arith, s .past-room);
+    }
 
     pub ordinal-row : {t : Dated} → Given c (year (heldYear y)) (day (a + o - 1)) t → ByOrdinal c z o t
-    ordinal-row {t} q = subst (λ (z : ℤ). ByOrdinal c z o t) e (passes not-off (on-ordinal of-its-year place q))
+    ordinal-row {t} q = subst (λ (z : ℤ). ByOrdinal c z o t) e (passes not-off (on-ordinal (in-year-at .of-year) place q))
       where
         place : Place (λ d. OfYear (year (heldYear y)) (labels c d)) (day (a + o - 1)) o
         place =
             let w : a + o - 1 + 1 - yearFirst r (heldYear y) ≡ o = omega (arith, s .first-is) in
-            subst (Place (λ d. OfYear (year (heldYear y)) (labels c d)) (day (a + o - 1))) w (days-of .here (a + o - 1) of-its-year .2)
+            subst (Place (λ d. OfYear (year (heldYear y)) (labels c d)) (day (a + o - 1))) w (days-of .here (a + o - 1) (in-year-at .of-year) .2)
 
         not-off : ¬ OffYear c (year (heldYear y)) o
         not-off (t, i, n) =
@@ -256,6 +267,32 @@ module _ (c : Calendar) {r : ℕ} (runs : Runs (meant c) r) (y o : ℕ) {a b : �
 
             never-high : (t : ℕ) → t ≡ yearFirst r (heldYear y + 1) - yearFirst r (heldYear y) → t < o → ⊥
             never-high t w q = omega (arith, s .first-is, s .past-is)
+
+-- the spot of a day of a year
+module _ (c : Calendar) {r y k : ℕ} (p : InYear c r y k) where
+  pub old-ordinal : k < r → Spot J.leapAt J.start k (heldYear y) (k + 1 - J.start (heldYear y))
+  old-ordinal n = spot-of-year julian-alone (p .year-held) (subst (OfYear (year (heldYear y))) (p .runs .below k n (p .room) .0) (p .of-year))
+
+  pub new-ordinal : r ≤ k → Spot G.leapAt G.start k (heldYear y) (k + 1 - G.start (heldYear y))
+  new-ordinal n = spot-of-year gregorian-alone (p .year-held) (subst (OfYear (year (heldYear y))) (p .runs .above k n (p .room) .0) (p .of-year))
+
+-- what an ordinal in its own reckoning asks of the machine
+pub spot-fits : {leapAt : ℕ → Bool} {start : ℕ → ℕ} {k y o : ℕ} → Spot leapAt start k y o → (o < 2 ^ 32) × (start y ≤ k + 1)
+spot-fits {leapAt} {start} {k} {y} {o} p = (omega (arith, p .to, year-most (leapAt y)), room (start y) (p .adds))
+  where
+    room : (s : ℕ) → s + o ≡ k + 1 → s ≤ k + 1
+    room s e = omega arith
+
+-- a spot that was made of an ordinal is on its day
+pub spot-made : {leapAt : ℕ → Bool} {start : ℕ → ℕ} {k y o : ℕ} {b : Bool} {s : S.Spot} → HeldYear (heldYear y) → Spot leapAt start k (heldYear y) o → b ≡ leapAt (heldYear y) → SpotAt k y o b s
+    → At leapAt start k (heldYear y) (s .month) (s .day) o
+spot-made {leapAt} {o = o} {s = s} h p e q = at-spot h p (subst (λ (b : Bool). MonthDayAt b o (s .month) (s .day)) e (q .month-day))
+
+pub spot-old : {r k y o : ℕ} {b : Bool} {s : S.Spot} → HeldYear (heldYear y) → k < r → Spot J.leapAt J.start k (heldYear y) o → b ≡ J.leapAt (heldYear y) → SpotAt k y o b s → OnSpot r s
+spot-old {r} h g p e q = subst (OnSpot r) (sym (q .is)) (old g (spot-made h p e q))
+
+pub spot-new : {r k y o : ℕ} {b : Bool} {s : S.Spot} → HeldYear (heldYear y) → r ≤ k → Spot G.leapAt G.start k (heldYear y) o → b ≡ G.leapAt (heldYear y) → SpotAt k y o b s → OnSpot r s
+spot-new {r} h g p e q = subst (OnSpot r) (sym (q .is)) (new g (spot-made h p e q))
 
 -- ---- What a switch says
 pub switch-runs : (c : Calendar) {r : ℕ} → SwitchIs c (Switch′.At r) → Runs (meant c) r
@@ -334,6 +371,9 @@ module _ {r : ℕ} (s : S.Spot) {a : ℕ} (l : OnSpot r s) (h : r ≤ s .held) w
       )
 
 -- what is given of a spot is given of its day and year
+pub given-spot : (c : Calendar) {k y o : ℕ} {b : Bool} {s : S.Spot} {a : Dated} → SpotAt k y o b s → Given c (year (heldYear (s .year))) (day (s .held)) a → Given c (year (heldYear y)) (day k) a
+given-spot c {a = a} p g = subst (λ (s : S.Spot). Given c (year (heldYear (s .year))) (day (s .held)) a) (p .is) g
+
 -- ---- A genuine record
 pub genuine-by : {d t : Date} → RecordOf (d .calendar) (d .jdn) (Dated′.Date t) → Accepted (d .calendar) → fieldsOf d ≡ fieldsOf t → Genuine d
 unfolding whole
@@ -371,13 +411,6 @@ genuine-refused e (passes a (record-of i)) g = let z : _≡_ {A = ℕ} 0 1 = cc 
 pub next-row : {d : Date} {n : ℤ} {a : Dated} → Genuine d → Is32Bit n → AtJdn (d .calendar) n a → Next d n a
 next-row g f (refuses x) = absurd (x (g .accepted))
 next-row g f (passes x r) = passes g (passes f r)
-
--- what a neighbour says of the day that it is for
-pub nowhere-outside : {n : ℤ} → IsNeighbour n Neighbour′.Nowhere → ¬ Is32Bit n
-nowhere-outside (outside f) = f
-
-pub day-there : {n k : ℤ} → IsNeighbour n (Neighbour′.Day k) → Is32Bit n × (k ≡ n)
-day-there (there f) = (f, refl)
 
 pub converts-row : {d : Date} {c : Calendar} {a : Dated} → Genuine d → AtJdn c (d .jdn) a → ConvertsTo d c a
 converts-row g (refuses x) = refuses (λ p. x (p .1))

@@ -2,11 +2,15 @@
 use mathlib.Core.Path.{_≡_}
 use mathlib.Core.Bool.{Bool}
 use lib.IntN.{ℤ, pos}
-use Prim.Native.Nat.{ℕ}
-use Rattle.days.specs.DayByDay.{label, JulianStyle, style}
-use Rattle.days.specs.Held.{day, year}
-use Rattle.days.specs.Runs.{Runs}
+use Prim.Native.Nat.{ℕ, _-_, _<_, _≤_}
+use Rattle.days.specs.DayByDay.{label, OfYear, JulianStyle, style}
+use Rattle.days.specs.Held.{day, year, HeldYear}
+use Rattle.days.specs.Numbers.{number}
+use Rattle.days.specs.Julian as J
+use Rattle.days.specs.Gregorian as G
+use Rattle.days.specs.Runs.{Runs, top}
 use Rattle.inner.specs.Natural.{heldYear}
+use Rattle.monthdays.specs.Promise.{MonthDayAt}
 use Rattle.fields.specs.declared.Fields.{Fields}
 use Rattle.refusals.specs.declared.Refusal.{Refusal}
 use Rattle.calendar.specs.declared.Calendar.{Calendar}
@@ -14,19 +18,32 @@ use Rattle.calendar.specs.declared.Date.{Date}
 use Rattle.calendar.specs.declared.Switch.{Switch}
 use Rattle.calendar.specs.declared.Switch.the-variants as Switch′
 use Rattle.inner.specs.declared.Spot.{Spot}
+use Rattle.inner.specs.Spots.{At, spot}
 use Rattle.calendar.specs.declared.ReformDate.{ReformDate}
 use Rattle.calendar.specs.declared.ReformDate.the-variants as ReformDate′
-use Rattle.calendar.specs.Calendars.{meant, Accepted, Skipped, sameStyle}
+use Rattle.calendar.specs.Calendars.{meant, labels, Accepted, Skipped, sameStyle}
 use Rattle.calendar.specs.Rows.{Unless, If}
-use Rattle.neighbours.specs.declared.Neighbour.{Neighbour}
-use Rattle.neighbours.specs.Neighbours.{IsNeighbour}
-use Rattle.calendar.specs.declared.Dated.{Dated}
-use Rattle.calendar.specs.Promise.{refusal, made-up, Missing, ReformRecord, Next}
+use Rattle.calendar.specs.Promise.{refusal, made-up, Missing, ReformRecord}
 
 -- the calendar is Julian below the held day r and Gregorian from it on; or it is made up
 pub data SwitchIs (c : Calendar) : Switch → Type 0 where
   switches-at : {r : ℕ} → Runs (meant c) r → SwitchIs c (Switch′.At r)
   no-calendar : ¬ Accepted c → SwitchIs c Switch′.MadeUp
+
+-- a held day of a raised year of the calendar
+pub record InYear (c : Calendar) (r y k : ℕ) : Type 0 where
+  pub runs : Runs (meant c) r
+  pub year-held : HeldYear (heldYear y)
+  pub of-year : OfYear (year (heldYear y)) (labels c (day k))
+  pub room : k < top
+
+-- day k is the day d of the month m of the year y, and the o-th of that year, in the reckoning that labels it
+pub data LabelledAt (r k y m d o : ℕ) : Type 0 where
+  old : k < r → At J.leapAt J.start k y m d o → LabelledAt r k y m d o
+  new : r ≤ k → At G.leapAt G.start k y m d o → LabelledAt r k y m d o
+
+abbrev pub OnSpot : ℕ → Spot → Type 0
+OnSpot r s = LabelledAt r (s .held) (heldYear (s .year)) (s .month) (s .day) (s .ordinal)
 
 -- a question of a label: 4, 5, and then the rows below
 abbrev pub OfALabel : {A : Type 0} → Calendar → ℤ → ℕ → ℕ → (Refusal → A) → (A → Type 0) → A → Type 0
@@ -35,6 +52,11 @@ OfALabel c y m d refused Below = If (Missing c (label y m d)) (refused (refusal 
 -- the record of a spot whose places are those of its own reckoning
 abbrev pub plainRecord : Calendar → Spot → ℤ → Date
 plainRecord c s n = record { calendar = c; year = year (heldYear (s .year)); ordinal = s .ordinal; month = s .month; day = s .day; «day_ordinal» = s .day; jdn = n }
+
+-- a spot is of this day, year and ordinal, with the month and the day that the ordinal has
+pub record SpotAt (k y o : ℕ) (leap : Bool) (s : Spot) : Type 0 where
+  pub is : s ≡ spot k y o (s .month) (s .day)
+  pub month-day : MonthDayAt leap o (s .month) (s .day)
 
 -- ---- Of a calendar and of a date
 
@@ -49,7 +71,3 @@ fieldsOf d = record { year = d .year; ordinal = d .ordinal; month = d .month; da
 -- of an accepted calendar: whether the label of a 32-bit day is Julian
 abbrev pub JulianStyleIs : Calendar → ℤ → Bool → Type 0
 JulianStyleIs c n b = Accepted c → b ≡ sameStyle JulianStyle (style (meant c) n)
-
--- of a record and the day next to it, whichever that is: the answer is that day's record, or its refusal
-abbrev pub Beside : Date → Neighbour → Dated → Type 0
-Beside d m a = (n : ℤ) → IsNeighbour n m → Next d n a

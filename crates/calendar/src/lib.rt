@@ -8,9 +8,8 @@ ghost use mathlib.Core.Bool.{not};
 ghost use Prim.Native.Nat.{_-_, _≤_};
 ghost use Rattle.calendar.specs.Calendars.{isReforming, styleIs};
 ghost use Rattle.calendar.specs.Promise.{refused, refusedReformation, Reforms, AtJdn, AtYmd, AtOrdinal, Next, ConvertsTo, IsGenuine, TellsCalendar, TellsDate, CountsDate, ReformationOf, reformDay, LastJulian, FirstGregorian};
-ghost use Rattle.calendar.specs.Natural.{SwitchIs, ReformDateOf, fieldsOf, JulianStyleIs, Beside};
+ghost use Rattle.calendar.specs.Natural.{SwitchIs, ReformDateOf, fieldsOf, JulianStyleIs};
 use fields::Fields;
-use neighbours::Neighbour;
 use reformation::Judgement;
 pub use refusals::Refusal;
 pub use refusals::refusal_of;
@@ -348,24 +347,27 @@ impl Date {
     pub fn succ(self) -> Dated
         ensures { λ a. ⌜ Next self (sucℤ (self .jdn)) a ⌝ }
     {
-        self.beside(neighbours::day_after(self.jdn))
+        if self.is_genuine() {
+            let day = raised(self.jdn);
+            if day == 4_294_967_295 {
+                return refused_count(15, 0);
+            }
+            let calendar = self.calendar;
+            return calendar.at_jdn(lowered(day + 1));
+        }
+        made_up()
     }
 
     pub fn pred(self) -> Dated
         ensures { λ a. ⌜ Next self (predℤ (self .jdn)) a ⌝ }
     {
-        self.beside(neighbours::day_before(self.jdn))
-    }
-
-    fn beside(self, neighbour: Neighbour) -> Dated
-        ensures { λ a. ⌜ Beside self neighbour a ⌝ }
-    {
         if self.is_genuine() {
+            let day = raised(self.jdn);
+            if day == 0 {
+                return refused_count(15, 0);
+            }
             let calendar = self.calendar;
-            return match neighbour {
-                Neighbour::Nowhere => refused_count(15, 0),
-                Neighbour::Day(jdn) => calendar.at_jdn(jdn),
-            };
+            return calendar.at_jdn(lowered(day - 1));
         }
         made_up()
     }

@@ -6,10 +6,10 @@ ghost use Rattle.days.specs.Held.{day};
 ghost use Rattle.days.specs.Held as Held;
 ghost use Rattle.days.specs.Runs.{Runs, julianMonth};
 ghost use Rattle.inner.specs.Natural.{heldYear};
+ghost use Rattle.monthdays.specs.Promise.{MonthDayAt};
 ghost use Rattle.calendar.specs.Calendars.{meant, IsRecord};
 ghost use Rattle.calendar.specs.Promise.{Month, Given, ByLabel, ByOrdinal};
-ghost use Rattle.labels.specs.Labels.{OnSpot};
-ghost use Rattle.calendar.specs.Natural.{plainRecord};
+ghost use Rattle.calendar.specs.Natural.{SpotAt, OnSpot, InYear, plainRecord};
 use crate::Calendar;
 use crate::Date;
 use crate::Dated;
@@ -24,8 +24,41 @@ pub fn on_day(calendar: Calendar, switch: u64, jdn: i32) -> Date
     requires { ⌜ Runs (meant calendar) switch ⌝ }
     ensures { λ d. ⌜ IsRecord calendar jdn d ⌝ }
 {
-    let s = labels::spot_on(switch, whole::raised(jdn));
+    let x = whole::raised(jdn);
+    let today = x as u64 + 782_219_326_294;
+    if today < switch {
+        let old = inner::julian_place(x);
+        let s = spot_at(
+            today,
+            old.year,
+            old.ordinal,
+            inner::is_julian_leap(old.year),
+        );
+        return record_of(calendar, switch, s, jdn);
+    }
+    let new = inner::gregorian_place(x);
+    let s = spot_at(
+        today,
+        new.year,
+        new.ordinal,
+        inner::is_gregorian_leap(new.year),
+    );
     record_of(calendar, switch, s, jdn)
+}
+
+// The month and the day of the month from the ordinal.
+fn spot_at(held: u64, year: u32, ordinal: u32, leap: bool) -> Spot
+    requires { ⌜ 1 ≤ ordinal ⌝ }
+    ensures { λ s. ⌜ SpotAt held year ordinal leap s ⌝ }
+{
+    let at = monthdays::month_day(leap, ordinal - 1);
+    Spot {
+        held: held,
+        year: year,
+        ordinal: ordinal,
+        month: at.month,
+        day: at.day,
+    }
 }
 
 // A Julian day has its places in the Julian year, and so has a Gregorian day in a year that begins from the switch on.
@@ -132,17 +165,26 @@ pub fn on_ordinal(calendar: Calendar, switch: u64, year: i32, ordinal: u32) -> D
     if span.past < span.first + ordinal as u64 {
         return crate::refused_count(6, ordinal);
     }
-    on_held(calendar, switch, y, span.first + ordinal as u64 - 1)
+    in_year(calendar, switch, y, span.first + ordinal as u64 - 1)
 }
 
-// The record of a held day of a raised year, or that 32 bits do not hold its number.
-fn on_held(calendar: Calendar, switch: u64, year: u32, held: u64) -> Dated
-    requires { ⌜ Runs (meant calendar) switch ⌝ }
+// The record of a day of a raised year, by its ordinal in its own reckoning.
+fn in_year(calendar: Calendar, switch: u64, year: u32, held: u64) -> Dated
+    requires { ⌜ InYear calendar switch year held ⌝ }
     ensures { λ d. ⌜ Given calendar (Held.year (heldYear year)) (day held) d ⌝ }
 {
-    match inner::day_number(held) {
-        DayNumber::Day(jdn) => Dated::Date(on_day(calendar, switch, jdn)),
-        DayNumber::Nothing => crate::refused_year(whole::lowered(year)),
-        DayNumber::Outside32 => crate::refused_year(whole::lowered(year)),
+    if held < switch {
+        let ordinal = held + 1 - inner::julian_start(year);
+        return given(
+            calendar,
+            switch,
+            spot_at(held, year, ordinal as u32, inner::is_julian_leap(year)),
+        );
     }
+    let ordinal = held + 1 - inner::gregorian_start(year);
+    given(
+        calendar,
+        switch,
+        spot_at(held, year, ordinal as u32, inner::is_gregorian_leap(year)),
+    )
 }

@@ -1,6 +1,6 @@
 -- The definitions tested by computing alone, near the known labels, where a reader can count along.
 -- Assumes nothing.
-use mathlib.Core.Path.{_≡_, refl}
+use mathlib.Core.Path.{_≡_, refl, _∙_}
 use lib.IntN.{pos, negsuc}
 use Rattle.days.specs.DayByDay.{label, labelOf, stepping, nextLabel, prevLabel, monthLength, julian, julianLeap, gregorian, gregorianLeap, splice, Reforming, labels, weekday, nextWeekday, prevWeekday}
 
@@ -22,9 +22,16 @@ unfolding labelOf stepping prevLabel monthLength gregorian gregorianLeap
 eve = refl
 
 -- the first day of the reformed calendar of 1582 is 15 October, and not 5 October
+first-gregorian : labelOf gregorian (pos 2_299_161) ≡ label (pos 1582) 10 15
+unfolding labelOf stepping gregorian
+first-gregorian = refl
+
+already-gregorian : labels (Reforming (pos 2_299_161)) (pos 2_299_161) ≡ labelOf gregorian (pos 2_299_161)
+unfolding splice
+already-gregorian = refl
+
 first-of-the-reform : labels (Reforming (pos 2_299_161)) (pos 2_299_161) ≡ label (pos 1582) 10 15
-unfolding splice labelOf stepping gregorian
-first-of-the-reform = refl
+first-of-the-reform = already-gregorian ∙ first-gregorian
 
 -- day 0 is a Monday, day 6 a Sunday, and so is day -1
 monday : weekday (pos 0) ≡ 1

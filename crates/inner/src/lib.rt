@@ -208,11 +208,12 @@ pub fn day_number(day: u64) -> DayNumber
 
 // ---- A day with its label
 
-// A held day, with its raised year, and the ordinal, the month and the day of the month that it has in its own reckoning.
+// A held day, with its raised year, and the ordinal, the month and the day of the month that it has in its own reckoning. In this order its
+// fields overlap those of a refusal so that an answer which is either costs no more than the spot alone.
 pub struct Spot {
+    pub ordinal: u32,
     pub held: u64,
     pub year: u32,
-    pub ordinal: u32,
     pub month: u32,
     pub day: u32,
 }

@@ -1,13 +1,14 @@
 -- `calendar::record::on_ordinal` meets its contract, row by row.
 -- Assumes nothing.
 use mathlib.Core.Path.{_≡_, _∙_}
+use Prim.Native.Nat.{_-_}
 use native.Mathlib.Omega.{arith}
 use borrow.Author.Needs.{needs}
 use mir.Facts.{toZ-ofZ}
 use Rattle.days.specs.Held.{year}
 use Rattle.inner.specs.Laws.{held-year, raised-year-held}
 use Rattle.inner.specs.Natural.{heldYear}
-use Rattle.calendar.specs.Laws.{off-low, off-high, ordinal-row}
+use Rattle.calendar.specs.Laws.{off-low, off-high, in-year-at, ordinal-row}
 use Rattle.calendar.proofs.record.on_ordinal.Statement.{statement}
 use Rattle.calendar.proofs.record.on_ordinal.Tie as tie
 
@@ -41,20 +42,23 @@ returns-2 c =
     let a = y .before .before in
     rw (c .refused-count2 .ensures) (off-high (a .args .calendar) (a .pre) (y .before .raised .result) (a .args .ordinal) (raised-year-held (y .before .raised .ok)) (year-is (y .before)) (y .year-span .ensures) (c .before .if2 .taken))
 
-add-on-held : tie.Need-add-on-held
-add-on-held c = record { fits = omega (arith, c .before .before .before .before .before .year-span .ensures .first-room) }
+add-in-year : tie.Need-add-in-year
+add-in-year c = record { fits = omega (arith, c .before .before .before .before .before .year-span .ensures .first-room) }
 
-sub-on-held : tie.Need-sub-on-held
-sub-on-held c = omega (arith, c .before .before .before .before .if1 .left)
+sub-in-year : tie.Need-sub-in-year
+sub-in-year c = omega (arith, c .before .before .before .before .if1 .left)
 
-on-held-requires : tie.Need-on-held-requires
-on-held-requires c κs = c .before .before .before .before .before .before .before .pre
+in-year-requires : tie.Need-in-year-requires
+in-year-requires c κs =
+    let y = c .before .before .before .before .before in
+    let a = y .before .before in
+    in-year-at (a .args .calendar) (a .pre) (y .before .raised .result) (a .args .ordinal) (raised-year-held (y .before .raised .ok)) (year-is (y .before)) (y .year-span .ensures) (c .before .before .before .before .if1 .left) (c .before .if2 .left)
 
 returns-3 : tie.Need-returns-3
 returns-3 c =
     let y = c .before .before .before .before .before .before in
     let a = y .before .before in
-    ordinal-row (a .args .calendar) (a .pre) (y .before .raised .result) (a .args .ordinal) (raised-year-held (y .before .raised .ok)) (year-is (y .before)) (y .year-span .ensures) (c .before .before .before .before .before .if1 .left) (c .before .before .if2 .left) (c .on-held .ensures)
+    ordinal-row (a .args .calendar) (a .pre) (y .before .raised .result) (a .args .ordinal) (raised-year-held (y .before .raised .ok)) (year-is (y .before)) (y .year-span .ensures) (c .before .before .before .before .before .if1 .left) (c .before .before .if2 .left) (c .in-year .ensures)
 
 pub on-ordinal-spec : {M : Type 1} → statement M
 on-ordinal-spec =
@@ -67,7 +71,7 @@ on-ordinal-spec =
     add-if2
     refused-count-requires-2
     returns-2
-    add-on-held
-    sub-on-held
-    on-held-requires
+    add-in-year
+    sub-in-year
+    in-year-requires
     returns-3)

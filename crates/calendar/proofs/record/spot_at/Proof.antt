@@ -1,12 +1,12 @@
--- `labels::spot_at` meets its contract.
+-- `calendar::record::spot_at` meets its contract.
 -- Assumes nothing.
 use mathlib.Core.Path.{_≡_, refl, subst}
 use Prim.Native.Nat.{ℕ, _+_, _-_}
 use native.Mathlib.Omega.{arith}
 use borrow.Author.Needs.{needs}
 use Rattle.monthdays.specs.Promise.{MonthDayAt}
-use Rattle.labels.proofs.spot_at.Statement.{statement}
-use Rattle.labels.proofs.spot_at.Tie as tie
+use Rattle.calendar.proofs.record.spot_at.Statement.{statement}
+use Rattle.calendar.proofs.record.spot_at.Tie as tie
 
 sub-month-day : tie.Need-sub-month-day
 sub-month-day c = search needs
