@@ -19,7 +19,7 @@ use Rattle.days.specs.Spans.{Stretch}
 use Rattle.days.specs.Starts.{Spot}
 use Rattle.days.specs.Julian as J
 use Rattle.days.specs.Gregorian as G
-use Rattle.days.specs.Numbers.{number, daysBefore, few-before}
+use Rattle.days.specs.Numbers.{daysBefore, few-before}
 use Rattle.days.specs.Reformations.{all-three}
 use Rattle.days.specs.Table.{accepts-only, fits-held}
 use Rattle.days.specs.Calendars.{skipped-nowhere}
@@ -36,14 +36,14 @@ use Rattle.fields.specs.Same.{IsSame}
 use Rattle.reformation.specs.Judging.{Judges, accepts-held, refuses-with-1, refuses-with-2, refused-not}
 use Rattle.reformation.specs.declared.Judgement.the-variants as Judgement′
 use Rattle.calendar.specs.declared.Calendar.{Calendar}
-use Rattle.calendar.specs.declared.Calendar.the-variants.{Julian, Gregorian, Reforming}
+use Rattle.calendar.specs.declared.Calendar.the-variants.{Reforming}
 use Rattle.calendar.specs.declared.Date.{Date}
 use Rattle.calendar.specs.declared.Reformed.the-variants as Reformed′
 use Rattle.calendar.specs.declared.Dated.{Dated}
 use Rattle.calendar.specs.declared.Dated.the-variants as Dated′
 use Rattle.calendar.specs.declared.Switch.the-variants as Switch′
 use Rattle.inner.specs.declared.Spot as S
-use Rattle.inner.specs.Spots.{At, spot, at-number, at-from, at-few}
+use Rattle.inner.specs.Spots.{At, at-number, at-from, at-few}
 use Rattle.changeover.specs.declared.Found.the-variants as Found′
 use Rattle.changeover.specs.Spots.{YearSpan, Finds, finds-old, finds-new, finds-gap, finds-none}
 use Rattle.changeover.specs.Laws.{starts-close, ordinal-sum}

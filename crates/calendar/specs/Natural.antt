@@ -5,7 +5,6 @@ use lib.IntN.{ℤ, pos}
 use Prim.Native.Nat.{ℕ, _-_, _<_, _≤_}
 use Rattle.days.specs.DayByDay.{label, OfYear, JulianStyle, style}
 use Rattle.days.specs.Held.{day, year, HeldYear}
-use Rattle.days.specs.Numbers.{number}
 use Rattle.days.specs.Julian as J
 use Rattle.days.specs.Gregorian as G
 use Rattle.days.specs.Runs.{Runs, top}

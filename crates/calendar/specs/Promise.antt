@@ -4,7 +4,7 @@ use mathlib.Core.Bool.{Bool, true, false}
 use mathlib.Core.Logic.{_⊎_}
 use Prim.Native.Nat.{ℕ, _-_, _≤_, _<_}
 use lib.IntN.{ℤ, pos, _-ℤ_}
-use Rattle.days.specs.DayByDay.{Label, label, Borne, OfYear, Place, YearLength, Is32Bit, weekday}
+use Rattle.days.specs.DayByDay.{Label, label, Borne, OfYear, Place, YearLength, Is32Bit}
 use Rattle.days.specs.Reformations.{Outcome, accepted, refused-1, refused-2, Judged}
 use Rattle.calendar.specs.declared.Calendar.{Calendar}
 use Rattle.calendar.specs.declared.Calendar.the-variants as Calendar′

@@ -14,8 +14,7 @@ use Rattle.days.specs.Year.{yearLength, year-most}
 use Rattle.days.specs.Starts.{Starts}
 use Rattle.days.specs.Julian as J
 use Rattle.days.specs.Gregorian as G
-use Rattle.days.specs.Numbers.{There, number, daysBefore, before}
-use Rattle.days.specs.Months.{ordinal-within}
+use Rattle.days.specs.Numbers.{There, daysBefore}
 use Rattle.days.specs.Table.{there-too}
 use Rattle.days.specs.Steps.{month-some}
 use Rattle.days.specs.Runs.{top, firstDay, first-cases, julianMonth, gregorianMonth, monthFirst, monthPast}

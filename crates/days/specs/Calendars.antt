@@ -1,17 +1,17 @@
 -- The calendars: the label of each next day is the next label, and the labels of every accepted calendar rise.
 -- Assumes nothing.
-use mathlib.Core.Path.{_≡_, refl, sym, _∙_, ap, subst, subst₂}
-use mathlib.Core.Logic.{_⊎_, inl, inr, ⊎-elim}
+use mathlib.Core.Path.{_≡_, refl, sym, _∙_, ap, subst}
+use mathlib.Core.Logic.{_⊎_, ⊎-elim}
 use Prim.Native.Nat.{ℕ, zero, suc, _<_}
 use native.Mathlib.Omega.{arith}
 use lib.IntN.{ℤ, pos, sucℤ, _+ℤ_, _-ℤ_}
 use lib.Signed.{_<ℤ_}
 use Rattle.whole.specs.Tests as N
 use Rattle.whole.specs.Integers.{lt-suc, steps, back-lt}
-use Rattle.days.specs.DayByDay.{Label, LeapRule, Reckoning, monthLength, nextLabel, labelOf, julian, gregorian, julianLeap, gregorianLeap, _≺_, by-year, by-month, by-day, Calendar, Julian, Gregorian, Reforming, labels, Rises, Borne, Accepted, julian-accepted, gregorian-accepted, reforming-accepted, AcceptedReformation, SwitchDay, reforms, Skipped}
+use Rattle.days.specs.DayByDay.{Label, LeapRule, Reckoning, monthLength, nextLabel, labelOf, julian, gregorian, julianLeap, gregorianLeap, _≺_, by-year, by-month, by-day, Calendar, Julian, Gregorian, Reforming, labels, Rises, Borne, Accepted, julian-accepted, gregorian-accepted, reforming-accepted, Skipped}
 use Rattle.days.specs.Steps.{Valid, next-day, next-month, next-year, after, label-suc, label-after, label-valid}
 use Rattle.days.specs.Order.{≺-trans}
-use Rattle.days.specs.Splice.{splice-below, splice-from, splice-either, splice-rises, between-nowhere}
+use Rattle.days.specs.Splice.{splice-either, splice-rises, between-nowhere}
 use Rattle.days.specs.Spans.{Proper}
 use Rattle.days.specs.Julian as J
 use Rattle.days.specs.Gregorian as G

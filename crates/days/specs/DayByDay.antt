@@ -1,7 +1,7 @@
 -- The calendars, day by day. This file is what a reader has to believe: everything proved about dates is said in its words.
 -- A day is a whole number, unbounded. Years are astronomical: the year before year 1 is year 0.
 use mathlib.Core.Path.{_≡_}
-use mathlib.Core.Bool.{Bool, true, false, not, cond, _&&_, _||_}
+use mathlib.Core.Bool.{Bool, not, cond, _&&_}
 use mathlib.Core.List.{List, [], _∷_}
 use Prim.Native.Nat.{ℕ, zero, suc, _-_, _<_, _%_}
 use lib.Dec.{ltb, eqb}

@@ -1,13 +1,12 @@
 -- Whether d divides y − bias is whether it divides y, where d divides the bias.
 -- Assumes nothing.
-use mathlib.Core.Path.{_≡_, refl, sym, _∙_, ap}
-use mathlib.Core.Bool.{Bool}
+use mathlib.Core.Path.{_≡_, sym, _∙_, ap}
 use mathlib.Core.Logic.{_⊎_, ⊎-elim}
-use Prim.Native.Nat.{ℕ, zero, suc, _+_, _-_, _*_, _<_, _≤_, _%_}
+use Prim.Native.Nat.{ℕ, _-_, _<_, _≤_, _%_}
 use native.Mathlib.Omega.{arith}
 use borrow.Author.Tests.{eq-eqb, ne-eqb}
 use lib.Dec.{eqb}
-use lib.IntN.{ℤ, natAbs}
+use lib.IntN.{ℤ}
 use Rattle.days.specs.DayByDay.{divides}
 use Rattle.whole.specs.Tests.{lt-or-ge, eq-or-not}
 use Rattle.whole.specs.Biased.{unbias, abs-below, abs-above}

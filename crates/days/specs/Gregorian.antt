@@ -1,18 +1,17 @@
 -- The Gregorian calendar in biased naturals: the first day of each year, and so the label of every day.
 -- Assumes nothing.
-use mathlib.Core.Path.{_≡_, refl, sym, _∙_, ap, ap₂}
-use mathlib.Core.Bool.{Bool, true, false, not, cond, _&&_, _||_}
+use mathlib.Core.Path.{_≡_, refl, sym, _∙_, ap}
+use mathlib.Core.Bool.{Bool, not, cond, _&&_}
 use mathlib.Core.Logic.{_⊎_, ⊎-elim}
-use Prim.Native.Nat.{ℕ, zero, suc, _+_, _-_, _*_, _<_, _≤_, _/_, _%_}
+use Prim.Native.Nat.{ℕ, suc, _+_, _-_, _*_, _<_, _≤_, _/_, _%_}
 use native.Mathlib.Omega.{arith}
 use borrow.Author.Tests.{eq-eqb, ne-eqb}
 use lib.Dec.{eqb}
-use Rattle.days.specs.DayByDay.{gregorian, gregorianLeap, monthLength, labelOf}
+use Rattle.days.specs.DayByDay.{gregorian, gregorianLeap, monthLength}
 use Rattle.whole.specs.Tests.{eq-or-not}
 use Rattle.days.specs.Steps.{Valid, label-anchor}
 use Rattle.days.specs.Year.{yearLength, inYear, through}
-use Rattle.whole.specs.Biased.{unbias}
-use Rattle.days.specs.Held.{yearBias, year}
+use Rattle.days.specs.Held.{year}
 use Rattle.days.specs.Divides.{divides-4, divides-100, divides-400}
 use Rattle.days.specs.Starts.{Starts}
 

@@ -1,6 +1,5 @@
 -- Days and years as naturals. A day n is held as n + dayBias, a year y as y + yearBias; yearBias is a multiple of 400, and day 0 of the
 -- held Julian years is their first day. The bounds are those of 32 bits.
-use mathlib.Core.Path.{_≡_}
 use Prim.Native.Nat.{ℕ, _≤_, _<_}
 use lib.IntN.{ℤ}
 use Rattle.whole.specs.Biased.{unbias}

@@ -1,17 +1,17 @@
 -- The Julian calendar in biased naturals: the first day of each year, and so the label of every day.
 -- Assumes nothing.
-use mathlib.Core.Path.{_≡_, refl, sym, _∙_, ap}
-use mathlib.Core.Bool.{Bool, true, false, cond}
+use mathlib.Core.Path.{_≡_, ap}
+use mathlib.Core.Bool.{Bool, cond}
 use mathlib.Core.Logic.{_⊎_, ⊎-elim}
-use Prim.Native.Nat.{ℕ, zero, suc, _+_, _-_, _*_, _<_, _≤_, _/_, _%_}
+use Prim.Native.Nat.{ℕ, suc, _+_, _-_, _*_, _<_, _≤_, _/_, _%_}
 use native.Mathlib.Omega.{arith}
 use borrow.Author.Tests.{eq-eqb, ne-eqb}
 use lib.Dec.{eqb}
-use Rattle.days.specs.DayByDay.{julian, julianLeap, monthLength, labelOf}
+use Rattle.days.specs.DayByDay.{julian, julianLeap, monthLength}
 use Rattle.whole.specs.Tests.{eq-or-not}
 use Rattle.days.specs.Steps.{Valid, label-anchor}
 use Rattle.days.specs.Year.{yearLength, inYear, through}
-use Rattle.days.specs.Held.{yearBias, year}
+use Rattle.days.specs.Held.{year}
 use Rattle.days.specs.Divides.{divides-4}
 use Rattle.days.specs.Starts.{Starts, Spot}
 

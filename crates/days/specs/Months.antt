@@ -1,6 +1,6 @@
 -- The months of a year, one after the other: their lengths by cases, and the days before each of them.
 -- Assumes nothing.
-use mathlib.Core.Path.{_≡_, refl, sym, _∙_, ap, subst}
+use mathlib.Core.Path.{_≡_, refl, sym, _∙_, ap}
 use mathlib.Core.Bool.{Bool, true, false, cond}
 use mathlib.Core.List.{List, [], _∷_}
 use mathlib.Core.Logic.{_⊎_, inl, inr, ⊎-elim}
@@ -10,7 +10,7 @@ use native.Mathlib.Nat.{zero-add, add-assoc}
 use native.Mathlib.Omega.{arith}
 use borrow.Author.Tests.{lt-ltb, le-ltb}
 use Rattle.whole.specs.Tests.{lt-or-ge}
-use lib.ListN.{drop, getD, List·getD-eq-default}
+use lib.ListN.{drop, List·getD-eq-default}
 use Rattle.days.specs.DayByDay.{monthLengths, monthLength}
 use Rattle.days.specs.Year.{yearLength, InYear, through, inYear}
 

@@ -9,14 +9,14 @@ use mathlib.Core.Logic.{⊎-elim}
 use borrow.Author.Tests.{lt-ltb, le-ltb}
 use lib.Dec.{T, ltb, leb, leb→le, ltb→lt}
 use lib.IntN.{ℤ, sucℤ}
-use Rattle.days.specs.DayByDay.{Borne, Label, label, LeapRule, Reckoning, monthLength, nextLabel, labelOf}
-use Rattle.whole.specs.Tests.{lt-or-ge, all, all-at, and-left, and-right}
+use Rattle.days.specs.DayByDay.{Borne, label, LeapRule, Reckoning, monthLength, nextLabel, labelOf}
+use Rattle.whole.specs.Tests.{lt-or-ge, all-at, and-left, and-right}
 use Rattle.days.specs.Steps.{Valid, label-valid, label-suc, month-some, next-month, next-year}
-use Rattle.days.specs.Year.{yearLength, InYear, inYear, year-most}
+use Rattle.days.specs.Year.{yearLength, InYear, year-most}
 use Rattle.days.specs.Months.{twelve, Before, before-first, before-next, ordinal-is, ordinal-within}
-use Rattle.whole.specs.Biased.{unbias, unbias-suc}
+use Rattle.whole.specs.Biased.{unbias-suc}
 use Rattle.days.specs.Held.{dayBias, day, year}
-use Rattle.days.specs.Starts.{Starts, Spot, label-of}
+use Rattle.days.specs.Starts.{Starts, label-of}
 use Rattle.days.specs.Spans.{nextMonth}
 
 -- the days of a year before its month m

@@ -1,14 +1,14 @@
 -- What follows from `Rises` alone, for any labelling of the days: labels are in the order of their days, no two days bear one label, and the
 -- days of a year, and those of a month, are one run. And what follows from `Place` and `Days` alone: a day has one place, one day has a place.
 -- Assumes nothing.
-use mathlib.Core.Path.{_≡_, refl, sym, _∙_, ap, subst}
-use mathlib.Core.Logic.{_⊎_, inl, inr, ⊎-elim}
+use mathlib.Core.Path.{_≡_, sym, _∙_, ap, subst}
+use mathlib.Core.Logic.{_⊎_, ⊎-elim}
 use Prim.Native.Nat.{ℕ, zero, suc, _+_, _<_, _≤_}
 use native.Mathlib.Omega.{arith}
 use lib.IntN.{ℤ, pos, _-ℤ_, +ℤ-idr}
-use lib.Signed.{_<ℤ_, _≤ℤ_, ≤ℤ-refl, <ℤ-≤ℤ-trans, <ℤ-irrefl, clashℤ}
+use lib.Signed.{_<ℤ_, _≤ℤ_, ≤ℤ-refl}
 use Rattle.whole.specs.Tests as N
-use Rattle.whole.specs.Integers.{lt-or-ge, lt-le, antisym, le-trans, eq-le, back-mono, back-suc}
+use Rattle.whole.specs.Integers.{lt-or-ge, antisym, le-trans, eq-le, back-mono, back-suc}
 use Rattle.days.specs.DayByDay.{Label, _≺_, Rises, OfYear, OfMonth, Place, Days}
 use Rattle.days.specs.Order.{≺-irrefl, ≺-trans, ≺-year, ≺-month}
 

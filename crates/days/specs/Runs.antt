@@ -3,9 +3,9 @@
 -- which day bears a label, which labels are skipped, and the days of a year and of a month.
 -- Assumes nothing.
 use mathlib.Core.Path.{_≡_, refl, sym, _∙_, ap, subst, subst₂}
-use mathlib.Core.Bool.{Bool, true, false, cond}
+use mathlib.Core.Bool.{Bool, cond}
 use mathlib.Core.Logic.{_⊎_, inl, inr, ⊎-elim}
-use Prim.Native.Nat.{ℕ, zero, suc, _+_, _-_, _/_, _<_, _≤_}
+use Prim.Native.Nat.{ℕ, _+_, _-_, _/_, _<_, _≤_}
 use native.Mathlib.Omega.{arith}
 use native.Mathlib.Numerals.{add-one}
 use native.Mathlib.Nat.{le-refl, le-of-lt, lt-of-le-of-lt, lt-of-lt-of-le}
@@ -14,9 +14,9 @@ use lib.Dec.{ltb}
 use lib.IntN.{ℤ, pos, sucℤ, _-ℤ_}
 use lib.Signed.{_<ℤ_, _≤ℤ_}
 use Rattle.whole.specs.Tests as N
-use Rattle.whole.specs.Biased.{unbias, unbias-suc, unbias-back, unbias-injective}
+use Rattle.whole.specs.Biased.{unbias-suc, unbias-back, unbias-injective}
 use Rattle.whole.specs.Integers.{lt-or-ge, unbias-up, unbias-down, unbias-le}
-use Rattle.days.specs.DayByDay.{Label, label, Reckoning, labelOf, julian, gregorian, monthLength, _≺_, Calendar, Julian, Gregorian, Reforming, labels, Style, JulianStyle, GregorianStyle, style, Rises, Borne, OfYear, OfMonth, Place, Ordinal, DayOrdinal, Accepted, julian-accepted, gregorian-accepted, reforming-accepted, AcceptedReformation, SwitchDay, reforms, Skipped}
+use Rattle.days.specs.DayByDay.{Label, label, Reckoning, labelOf, julian, gregorian, monthLength, _≺_, Calendar, Julian, Gregorian, Reforming, labels, JulianStyle, GregorianStyle, style, Rises, Borne, OfYear, OfMonth, Place, Ordinal, DayOrdinal, Accepted, julian-accepted, gregorian-accepted, reforming-accepted, AcceptedReformation, SwitchDay, reforms, Skipped}
 use Rattle.days.specs.Rising.{up-back, once}
 use Rattle.days.specs.Splice.{splice-below, splice-from, splice-either}
 use Rattle.days.specs.Spans.{Span, First, first-by, Stretch, stretch, year-span, month-span, nextMonth}
@@ -26,7 +26,7 @@ use Rattle.days.specs.Year.{yearLength, year-most}
 use Rattle.days.specs.Starts.{Starts, start-right}
 use Rattle.days.specs.Julian as J
 use Rattle.days.specs.Gregorian as G
-use Rattle.days.specs.Numbers.{There, number, numbered, there, daysBefore, within-year, month-first, month-past, few-before}
+use Rattle.days.specs.Numbers.{There, number, numbered, there, daysBefore, within-year, month-first, month-past}
 use Rattle.days.specs.Calendars.{julian-rises, gregorian-rises, accepted-rises, labels-proper}
 use Rattle.days.specs.Table.{there-too, fits-only}
 

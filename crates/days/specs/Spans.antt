@@ -2,18 +2,18 @@
 -- span's beginning, up to the first day whose label is not before its end. Days are held as naturals with a bias, so that places and
 -- numbers of days are differences of naturals.
 -- Assumes nothing.
-use mathlib.Core.Path.{_≡_, refl, sym, _∙_, ap, subst}
-use mathlib.Core.Bool.{Bool, true, false, cond}
-use mathlib.Core.Logic.{_⊎_, inl, inr, ⊎-elim}
-use Prim.Native.Nat.{ℕ, zero, suc, _+_, _-_, _<_, _≤_}
+use mathlib.Core.Path.{_≡_, refl, sym, _∙_, subst}
+use mathlib.Core.Bool.{cond}
+use mathlib.Core.Logic.{_⊎_, ⊎-elim}
+use Prim.Native.Nat.{ℕ, suc, _+_, _-_, _<_, _≤_}
 use native.Mathlib.Omega.{arith}
 use borrow.Author.Tests.{lt-ltb, le-ltb}
 use lib.Dec.{ltb}
-use lib.IntN.{ℤ, pos, sucℤ, _+ℤ_, _-ℤ_}
+use lib.IntN.{ℤ, pos, sucℤ, _-ℤ_}
 use lib.Signed.{_<ℤ_, _≤ℤ_, <ℤ-irrefl, clashℤ}
 use Rattle.whole.specs.Tests as N
 use Rattle.whole.specs.Biased.{unbias, unbias-add, unbias-back, unbias-injective}
-use Rattle.whole.specs.Integers.{lt-or-ge, antisym, eq-le, le-trans, lt-suc, lt-suc-le, steps, back-lt, none-between, unbias-up, unbias-down, unbias-le}
+use Rattle.whole.specs.Integers.{lt-or-ge, antisym, eq-le, le-trans, lt-suc, lt-suc-le, steps, none-between, unbias-up, unbias-down, unbias-le}
 use Rattle.days.specs.DayByDay.{Label, label, _≺_, by-year, by-month, by-day, Rises, OfYear, OfMonth, Place, Days}
 use Rattle.days.specs.Order.{≺-irrefl, ≺-trans}
 use Rattle.days.specs.Rising.{no-later}

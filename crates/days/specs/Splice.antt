@@ -1,13 +1,13 @@
 -- Two labellings put together at a day: below it the one, from it on the other. If each rises on its side, and the last label of the first
 -- comes before the first label of the second, the whole rises. A calendar with several switches is several splices.
 -- Assumes nothing.
-use mathlib.Core.Path.{_≡_, refl, sym, _∙_, ap, subst, subst₂}
+use mathlib.Core.Path.{_≡_, refl, sym, ap, subst, subst₂}
 use mathlib.Core.Bool.{Bool, true, false, cond}
 use mathlib.Core.Logic.{_⊎_, inl, inr, ⊎-elim}
 use lib.Dec.{T}
 use lib.IntN.{ℤ, pos, _-ℤ_}
 use lib.Signed.{ltZ, _<ℤ_, _≤ℤ_, <ℤ-≤ℤ-trans, clashℤ, ≤ℤ-refl}
-use Rattle.whole.specs.Integers.{lt-or-ge, lt-le, le-lt-trans, antisym, back-lt, none-between}
+use Rattle.whole.specs.Integers.{lt-or-ge, lt-le, antisym, back-lt, none-between}
 use Rattle.days.specs.DayByDay.{Label, _≺_, splice, Rises, Borne}
 use Rattle.days.specs.Order.{≺-trans}
 use Rattle.days.specs.Rising.{up-back}

@@ -2,11 +2,11 @@
 -- `start y` is the first day of year y. What is asked of it is that it goes up by the length of the year, and is right at one year; then
 -- every day's label is known by its year and its place in it. For any leap rule: an instance shows five facts of naturals.
 -- Assumes nothing.
-use mathlib.Core.Path.{_≡_, refl, sym, _∙_, ap, subst}
+use mathlib.Core.Path.{_≡_, sym, _∙_, ap}
 use mathlib.Core.Bool.{Bool}
 use Prim.Native.Nat.{ℕ, zero, suc, _+_, _-_, _<_, _≤_}
 use native.Mathlib.Omega.{arith}
-use lib.IntN.{ℤ, pos, sucℤ, _+ℤ_, _-ℤ_}
+use lib.IntN.{ℤ, pos, _-ℤ_}
 use Rattle.days.specs.DayByDay.{Label, label, Reckoning, labelOf}
 use Rattle.days.specs.Steps.{Valid, month-some, after, after-injective, label-valid, label-after}
 use Rattle.days.specs.Year.{yearLength, dayOfYear, year-most, year-walk, year-over}

@@ -3,8 +3,8 @@
 -- Assumes nothing.
 use mathlib.Core.Path.{_≡_, refl, sym, _∙_, ap, subst, subst₂}
 use mathlib.Core.Bool.{Bool, true, false, not, _&&_}
-use mathlib.Core.Logic.{_⊎_, inl, inr, ⊎-elim}
-use Prim.Native.Nat.{ℕ, zero, suc, _+_, _-_, _<_, _≤_, _^_, _%_}
+use mathlib.Core.Logic.{_⊎_, ⊎-elim}
+use Prim.Native.Nat.{ℕ, zero, suc, _+_, _-_, _<_, _≤_, _%_}
 use native.Mathlib.Omega.{arith}
 use native.Mathlib.Nat.{zero-add, suc-add, le-trans}
 use lib.Dec.{eqb, lit≤}
@@ -13,13 +13,13 @@ use lib.Signed.{_<ℤ_, _≤ℤ_}
 use mir.Syntax.{w32}
 use mir.Val.{SFits}
 use Rattle.whole.specs.Tests as N
-use Rattle.whole.specs.Biased.{unbias, unbias-back}
+use Rattle.whole.specs.Biased.{unbias-back}
 use Rattle.whole.specs.Edge.{fits-from, unbias-fits, unbias-fits-only}
 use Rattle.whole.specs.Integers.{lt-or-ge, eq-le, unbias-up, unbias-down, unbias-le, unbias-le-down}
-use Rattle.days.specs.DayByDay.{Label, label, labelOf, julian, gregorian, monthLength, _≺_, by-month, Borne, Is32Bit, JulianDayFits, AcceptedReformation}
+use Rattle.days.specs.DayByDay.{Label, label, labelOf, julian, gregorian, monthLength, _≺_, by-month, Is32Bit, JulianDayFits, AcceptedReformation}
 use Rattle.days.specs.Reformations.{Outcome, accepted, refused-1, refused-2, Judged, no-day-before, no-julian-day, not-later, all-three, Row, row-1, row-2, row-3, row-4, row-5}
 use Rattle.days.specs.Order.{≺-irrefl, ≺-trans, ≺-year}
-use Rattle.days.specs.Rising.{up-back, once}
+use Rattle.days.specs.Rising.{up-back}
 use Rattle.days.specs.Spans.{held-from}
 use Rattle.days.specs.Held.{dayBias, yearBias, day, year, HeldDay}
 use Rattle.days.specs.Months.{twelve}

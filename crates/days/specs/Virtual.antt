@@ -1,9 +1,9 @@
 -- The Gregorian year and ordinal of a day, from the Julian ones of a day that is some days later: a virtual leap day is put at the end of each
 -- year that the Gregorian rule makes common and the Julian one leap. r is the day's number in its cycle of 400 years, n the virtual days before it.
 -- Assumes nothing.
-use mathlib.Core.Path.{_≡_, refl, sym, _∙_, ap, subst}
+use mathlib.Core.Path.{_≡_, sym, _∙_, subst}
 use mathlib.Core.Logic.{_⊎_, ⊎-elim}
-use Prim.Native.Nat.{ℕ, zero, suc, _+_, _-_, _*_, _<_, _≤_, _/_, _%_}
+use Prim.Native.Nat.{ℕ, _+_, _-_, _*_, _<_, _≤_, _/_, _%_}
 use native.Mathlib.Nat.{le-trans, le-of-eq}
 use native.Mathlib.Omega.{arith}
 use Rattle.whole.specs.Tests.{lt-or-ge, eq-or-not}

@@ -1,16 +1,16 @@
 -- A year's days: from 1 January on, the day of ordinal o (from 1) has the month and the day that going through the months finds,
 -- and the day after the last is 1 January of the next year. For any leap rule.
 -- Assumes nothing.
-use mathlib.Core.Path.{_≡_, refl, sym, _∙_, ap, subst}
+use mathlib.Core.Path.{_≡_, refl, sym, _∙_, ap}
 use mathlib.Core.Bool.{Bool, true, false, cond, _&&_, _||_}
 use mathlib.Core.List.{List, [], _∷_}
 use mathlib.Core.Logic.{_⊎_, inl, inr, ⊎-elim}
-use Prim.Native.Nat.{ℕ, zero, suc, _+_, _-_, _<_, _≤_}
+use Prim.Native.Nat.{ℕ, zero, suc, _-_, _<_, _≤_}
 use native.Mathlib.Omega.{arith}
 use lib.Dec.{T, leb, ltb, eqb, leb→le, ltb→lt, eqb→eq}
 use lib.IntN.{ℤ, pos, sucℤ}
 use Rattle.days.specs.DayByDay.{Label, label, LeapRule, monthLengths, monthLength, nextLabel}
-use Rattle.whole.specs.Tests.{all, all-at, and-left, and-right}
+use Rattle.whole.specs.Tests.{all-at, and-left, and-right}
 use Rattle.days.specs.Steps.{next-day, next-month, next-year, after, december}
 
 -- the days of a year

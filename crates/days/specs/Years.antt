@@ -3,14 +3,14 @@
 -- Assumes nothing.
 use mathlib.Core.Path.{_≡_, refl, sym, _∙_, ap, subst}
 use mathlib.Core.Logic.{_⊎_, inl, inr, ⊎-elim}
-use Prim.Native.Nat.{ℕ, _≤_, _<_}
+use Prim.Native.Nat.{_≤_, _<_}
 use native.Mathlib.Omega.{arith}
 use lib.Dec.{leb→le}
 use lib.IntN.{ℤ, pos, negsuc, natAbs}
 use lib.Signed.{_≤ℤ_, leZ-yes}
 use Rattle.whole.specs.Edge.{fits-from, fits-to, fits-between}
 use Rattle.whole.specs.Integers.{lt-or-ge, antisym, eq-le, le-trans}
-use Rattle.days.specs.DayByDay.{Label, label, labelOf, julian, gregorian, _≺_, Calendar, Julian, Gregorian, Reforming, labels, Accepted, julian-accepted, gregorian-accepted, reforming-accepted, Is32Bit, Rises, LeapRule}
+use Rattle.days.specs.DayByDay.{Label, label, labelOf, julian, gregorian, _≺_, Calendar, Julian, Gregorian, Reforming, labels, Accepted, Is32Bit, Rises, LeapRule}
 use Rattle.days.specs.Steps.{Valid, label-valid, month-most}
 use Rattle.days.specs.Order.{≺-year}
 use Rattle.days.specs.Julian as J

@@ -13,7 +13,6 @@ use Rattle.days.specs.Steps.{after, after-stepping, after-sum}
 use Rattle.days.specs.Calendars.{after-later}
 use Rattle.days.specs.Numbers.{daysBefore}
 use Rattle.monthdays.specs.declared.MonthDay.{MonthDay}
-use Rattle.monthdays.specs.declared.MonthDay.the-variants as MonthDay′
 use Rattle.monthdays.specs.declared.DayOrdinal.{DayOrdinal}
 use Rattle.monthdays.specs.declared.DayOrdinal.the-variants as DayOrdinal′
 use Rattle.monthdays.specs.Promise.{InYear, MonthDayOf, month-day, no-month-day, OrdinalOf, ordinal, no-ordinal, MonthDayAt}

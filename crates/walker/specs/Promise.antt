@@ -1,7 +1,7 @@
 -- What the walkers promise: the rows of the table of refusals that each call can meet, in the table's order, and then its answer and the
 -- walker after it.
 use mathlib.Core.Path.{_≡_}
-use mathlib.Core.Bool.{Bool, true, false}
+use mathlib.Core.Bool.{Bool, true}
 use Prim.Native.Nat.{ℕ}
 use lib.IntN.{pos}
 use Rattle.calendar.specs.declared.Date.{Date}

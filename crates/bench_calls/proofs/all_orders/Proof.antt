@@ -5,9 +5,6 @@ use borrow.Author.Needs.{needs}
 use lib.ListN.{length}
 use Rattle.bench_calls.proofs.all_orders.Statement.{statement}
 use Rattle.bench_calls.proofs.all_orders.Tie as tie
-use Rattle.bench_calls.proofs.all_orders.Reads as reads
-use Rattle.bench_calls.proofs.all_orders.Lts as lts
-use Rattle.bench_calls.proofs.order_at.Reads as order-at-reads
 
 abbrev Inv-loop : tie.InvT-loop
 Inv-loop orders n at₀ at = (length orders ≡ 512) × (n ≤ 512) × (at ≤ n)

@@ -5,9 +5,6 @@ use borrow.Author.Needs.{needs}
 use lib.ListN.{length}
 use Rattle.bench_calls.proofs.jdn_calls.Statement.{statement}
 use Rattle.bench_calls.proofs.jdn_calls.Tie as tie
-use Rattle.bench_calls.proofs.jdn_calls.Reads as reads
-use Rattle.bench_calls.proofs.jdn_calls.Lts as lts
-use Rattle.bench_calls.proofs.jdn_call.Reads as jdn-call-reads
 
 abbrev Inv-loop : tie.InvT-loop
 Inv-loop calendar signs calls sum₀ k₀ sum k = (length signs ≡ 8192) × (k ≤ calls)

@@ -5,9 +5,6 @@ use borrow.Author.Needs.{needs}
 use lib.ListN.{length}
 use Rattle.bench_calls.proofs.parse_calls.Statement.{statement}
 use Rattle.bench_calls.proofs.parse_calls.Tie as tie
-use Rattle.bench_calls.proofs.parse_calls.Reads as reads
-use Rattle.bench_calls.proofs.parse_calls.Lts as lts
-use Rattle.bench_calls.proofs.parse_call.Reads as parse-call-reads
 
 abbrev Inv-loop : tie.InvT-loop
 Inv-loop calendar counts texts calls sum₀ k₀ sum k = (length counts ≡ 32768) × (length texts ≡ 65536) × (k ≤ calls)

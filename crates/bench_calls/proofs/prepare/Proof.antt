@@ -5,11 +5,6 @@ use borrow.Author.Needs.{needs}
 use lib.ListN.{length}
 use Rattle.bench_calls.proofs.prepare.Statement.{statement}
 use Rattle.bench_calls.proofs.prepare.Tie as tie
-use Rattle.bench_calls.proofs.prepare.Reads as reads
-use Rattle.bench_calls.proofs.prepare.Lts as lts
-use Rattle.bench_calls.proofs.day_of.Reads as day-of-reads
-use Rattle.bench_calls.proofs.next.Reads as next-reads
-use Rattle.bench_calls.proofs.put_day.Reads as put-day-reads
 
 abbrev Inv-loop : tie.InvT-loop
 Inv-loop calendar signs₀ counts₀ texts₀ x₀ i₀ signs counts texts x i =

@@ -5,9 +5,6 @@ use borrow.Author.Needs.{needs}
 use lib.ListN.{length}
 use Rattle.bench_calls.proofs.ymd_calls.Statement.{statement}
 use Rattle.bench_calls.proofs.ymd_calls.Tie as tie
-use Rattle.bench_calls.proofs.ymd_calls.Reads as reads
-use Rattle.bench_calls.proofs.ymd_calls.Lts as lts
-use Rattle.bench_calls.proofs.ymd_call.Reads as ymd-call-reads
 
 abbrev Inv-loop : tie.InvT-loop
 Inv-loop calendar signs counts calls sum₀ k₀ sum k = (length signs ≡ 8192) × (length counts ≡ 32768) × (k ≤ calls)

@@ -1,6 +1,5 @@
 -- `inner::ordinal_number` meets its contract.
 -- Assumes nothing.
-use mathlib.Core.Path.{subst, sym}
 use native.Mathlib.Omega.{arith}
 use borrow.Author.Needs.{needs}
 use Rattle.inner.specs.Natural.{off-year, on-year}

@@ -1,5 +1,5 @@
 -- `whole::is_negative` meets its contract. Assumes nothing.
-use mathlib.Core.Path.{_≡_, sym, ap, _∙_}
+use mathlib.Core.Path.{ap, _∙_}
 use Prim.Native.Nat.{_^_}
 use borrow.Author.Needs.{needs}
 use mir.Facts.{toZ-ofZ}

@@ -1,15 +1,15 @@
 -- `whole::lowered` meets its contract. The difference is made in 64 bits, where it fits, and is cast to 32.
 -- Assumes nothing.
-use mathlib.Core.Path.{_≡_, sym, ap, _∙_, subst}
+use mathlib.Core.Path.{_≡_, sym, ap, subst}
 use Prim.Native.Nat.{ℕ, _^_, _<_}
 use native.Mathlib.Omega.{arith}
 use borrow.Author.Needs.{needs}
 use lib.IntN.{ℤ, pos, _-ℤ_}
 use mir.Syntax.{w32, w64}
-use mir.Val.{Fits, SFits, ofZ, toZ}
-use mir.Facts.{toZ-ofZ, toZ-pos, sfits-widen}
+use mir.Val.{Fits, SFits, toZ}
+use mir.Facts.{toZ-pos, sfits-widen}
 use Rattle.whole.specs.Biased.{unbias}
-use Rattle.whole.specs.Machine.{back, fall, unbias-more, unbias-zero}
+use Rattle.whole.specs.Machine.{back, fall}
 use Rattle.whole.proofs.lowered.Statement.{statement}
 use Rattle.whole.proofs.lowered.Tie as tie
 

@@ -1,5 +1,5 @@
 -- `whole::magnitude` meets its contract. Assumes nothing.
-use mathlib.Core.Path.{_≡_, sym, ap, _∙_}
+use mathlib.Core.Path.{sym, ap, _∙_}
 use Prim.Native.Nat.{_^_}
 use borrow.Author.Needs.{needs}
 use lib.IntN.{natAbs}

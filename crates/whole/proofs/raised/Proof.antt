@@ -1,13 +1,12 @@
 -- `whole::raised` meets its contract. The sum is made in 64 bits, where it fits, and is cast to 32.
 -- Assumes nothing.
 use mathlib.Core.Path.{_≡_, sym, ap, _∙_, subst}
-use Prim.Native.Nat.{ℕ, _^_}
+use Prim.Native.Nat.{_^_}
 use native.Mathlib.Omega.{arith}
-use lib.IntN.{ℤ, pos, natAbs, _+ℤ_}
+use lib.IntN.{ℤ, pos, _+ℤ_}
 use mir.Syntax.{w32, w64}
 use mir.Val.{SFits, ofZ, toZ}
 use mir.Facts.{toZ-ofZ, sfits-widen}
-use Rattle.whole.specs.Biased.{unbias}
 use Rattle.whole.specs.Machine.{back, Raised, rise, unbias-fewer, unbias-zero}
 use Rattle.whole.proofs.raised.Statement.{statement}
 use Rattle.whole.proofs.raised.Tie as tie

@@ -1,10 +1,8 @@
 -- `whole::signed` meets its contract. Assumes nothing.
-use mathlib.Core.Path.{_≡_, refl, sym, ap, _∙_}
-use mathlib.Core.Bool.{Bool}
 use Prim.Native.Nat.{_+_, _-_, _^_}
 use native.Mathlib.Omega.{arith}
 use borrow.Author.Needs.{needs}
-use Rattle.whole.specs.Edge.{signedOf, held-minus, held-plus, narrows-below, narrows-above, narrows-fits}
+use Rattle.whole.specs.Edge.{held-minus, held-plus, narrows-below, narrows-above, narrows-fits}
 use Rattle.whole.proofs.signed.Statement.{statement}
 use Rattle.whole.proofs.signed.Tie as tie
 
