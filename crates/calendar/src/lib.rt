@@ -298,19 +298,13 @@ impl Date {
     pub fn ordinal0(self) -> Counted
         ensures { λ a. ⌜ CountsDate self (self .ordinal - 1) a ⌝ }
     {
-        if self.is_genuine() {
-            return Counted::Number(one_less(self.ordinal));
-        }
-        Counted::Refused(refusal_of(16, 0))
+        from_0(self, self.ordinal)
     }
 
     pub fn day_ordinal0(self) -> Counted
         ensures { λ a. ⌜ CountsDate self (self .«day_ordinal» - 1) a ⌝ }
     {
-        if self.is_genuine() {
-            return Counted::Number(one_less(self.day_ordinal));
-        }
-        Counted::Refused(refusal_of(16, 0))
+        from_0(self, self.day_ordinal)
     }
 
     pub fn is_julian(self) -> Told
@@ -371,6 +365,16 @@ impl Date {
         }
         made_up()
     }
+}
+
+// A number of a record, which has to be genuine, counted from 0 in place of 1.
+fn from_0(date: Date, number: u32) -> Counted
+    ensures { λ a. ⌜ CountsDate date (number - 1) a ⌝ }
+{
+    if date.is_genuine() {
+        return Counted::Number(one_less(number));
+    }
+    Counted::Refused(refusal_of(16, 0))
 }
 
 fn one_less(n: u32) -> u32

@@ -1,4 +1,4 @@
--- `calendar::Date::day_ordinal0` meets its promise.
+-- `calendar::from_0` meets its promise.
 -- Assumes nothing.
 use mathlib.Core.Path.{ap}
 use Prim.Native.Nat.{_-_}
@@ -6,13 +6,13 @@ use borrow.Author.Needs.{needs}
 use Rattle.calendar.specs.Calendars.{Genuine}
 use Rattle.calendar.specs.Rows.{refuses, passes}
 use Rattle.calendar.specs.declared.Counted.the-variants as Counted′
-use Rattle.calendar.proofs.Date.day_ordinal0.Statement.{statement}
-use Rattle.calendar.proofs.Date.day_ordinal0.Tie as tie
+use Rattle.calendar.proofs.from_0.Statement.{statement}
+use Rattle.calendar.proofs.from_0.Tie as tie
 
-genuine : (c : tie.Then1) → Genuine (c .before .before .args .self)
+genuine : (c : tie.Then1) → Genuine (c .before .before .args .date)
 genuine c = rw (c .if1 .taken) at (c .before .is-genuine .ensures)
 
-made-up : (c : tie.Else1) → ¬ Genuine (c .before .before .args .self)
+made-up : (c : tie.Else1) → ¬ Genuine (c .before .before .args .date)
 made-up c = rw (c .if1 .left) at (c .before .is-genuine .ensures)
 
 is-genuine-requires : tie.Need-is-genuine-requires
@@ -30,7 +30,7 @@ refusal-of-requires c κs = search needs
 returns-2 : tie.Need-returns-2
 returns-2 c = rw (c .refusal-of .ensures) (refuses (made-up (c .before)))
 
-pub day-ordinal0-spec : {M : Type 1} → statement M
-day-ordinal0-spec =
+pub from-0-spec : {M : Type 1} → statement M
+from-0-spec =
     tie.close
     (tie.spec is-genuine-requires one-less-requires returns refusal-of-requires returns-2)
