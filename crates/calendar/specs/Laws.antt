@@ -11,7 +11,7 @@ use lib.IntN.{ℤ, pos}
 use Rattle.whole.specs.Tests.{lt-or-ge}
 use Rattle.whole.specs.Biased.{unbias}
 use Rattle.days.specs.DayByDay as D
-use Rattle.days.specs.DayByDay.{AcceptedReformation, label, Borne, OfYear, Place, Ordinal, DayOrdinal, Is32Bit, Style, JulianStyle, GregorianStyle, style}
+use Rattle.days.specs.DayByDay.{AcceptedReformation, label, Borne, OfYear, Place, Ordinal, DayOrdinal, Is32Bit, Style, JulianStyle, GregorianStyle, style, Month}
 use Rattle.days.specs.Rising.{days-one}
 use Rattle.days.specs.Held.{dayBias, day, year, HeldYear}
 use Rattle.days.specs.Year.{year-most}
@@ -50,7 +50,7 @@ use Rattle.changeover.specs.Laws.{starts-close, ordinal-sum}
 use Rattle.refusals.specs.declared.Refusal.{Refusal}
 use Rattle.calendar.specs.Calendars.{meant, labels, Accepted, IsRecord, Genuine, sameStyle, styleIs}
 use Rattle.calendar.specs.Rows.{refuses, passes}
-use Rattle.calendar.specs.Promise.{refused, refusedReformation, Reforms, judged, Month, RecordOf, record-of, Given, ByLabel, on-label, ByOrdinal, OffYear, on-ordinal, AtJdn, IsGenuine, Next, ConvertsTo}
+use Rattle.calendar.specs.Promise.{refused, refusedReformation, Reforms, judged, RecordOf, record-of, Given, ByLabel, on-label, ByOrdinal, OffYear, on-ordinal, AtJdn, IsGenuine, Next, ConvertsTo}
 use Rattle.calendar.specs.One.{whole, record-one}
 use Rattle.calendar.specs.Natural.{SwitchIs, switches-at, no-calendar, InYear, LabelledAt, old, new, OnSpot, OfALabel, plainRecord, SpotAt, fieldsOf}
 

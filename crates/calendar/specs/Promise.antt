@@ -2,9 +2,9 @@
 use mathlib.Core.Path.{_≡_}
 use mathlib.Core.Bool.{Bool, true, false}
 use mathlib.Core.Logic.{_⊎_}
-use Prim.Native.Nat.{ℕ, _-_, _≤_, _<_}
+use Prim.Native.Nat.{ℕ, _-_, _<_}
 use lib.IntN.{ℤ, pos, _-ℤ_}
-use Rattle.days.specs.DayByDay.{Label, label, Borne, OfYear, Place, YearLength, Is32Bit}
+use Rattle.days.specs.DayByDay.{Label, label, Borne, OfYear, Place, YearLength, Is32Bit, Month}
 use Rattle.days.specs.Reformations.{Outcome, accepted, refused-1, refused-2, Judged}
 use Rattle.calendar.specs.declared.Calendar.{Calendar}
 use Rattle.calendar.specs.declared.Calendar.the-variants as Calendar′
@@ -63,9 +63,6 @@ AtJdn c n = Unless (Accepted c) (Dated′.Refused made-up) (RecordOf c n)
 -- a day n of the year y that is found: 7 where its number is outside 32 bits, or its record
 abbrev pub Given : Calendar → ℤ → ℤ → Dated → Type 0
 Given c y n = Unless (Is32Bit n) (refused 7 y) (RecordOf c n)
-
-abbrev pub Month : ℕ → Type 0
-Month m = (1 ≤ m) × (m ≤ 12)
 
 -- no day of the calendar bears the label, and it is not skipped
 abbrev pub Missing : Calendar → Label → Type 0

@@ -5,7 +5,7 @@ use mathlib.Core.Logic.{_⊎_, ⊎-elim}
 use Prim.Native.Nat.{ℕ, _≤_, _<_}
 use native.Mathlib.Omega.{arith}
 use lib.IntN.{ℤ, sucℤ, predℤ, pred-suc, suc-pred}
-use Rattle.days.specs.DayByDay.{Label, label, OfYear, Place, Is32Bit}
+use Rattle.days.specs.DayByDay.{Label, label, OfYear, Place, Is32Bit, Month}
 use Rattle.days.specs.Rising.{once, nth-one, nth-within}
 use Rattle.days.specs.Calendars.{accepted-rises, skipped-nowhere, labels-proper}
 use Rattle.calendar.specs.declared.Calendar.{Calendar}
@@ -14,7 +14,7 @@ use Rattle.calendar.specs.declared.Dated.{Dated}
 use Rattle.calendar.specs.declared.Dated.the-variants as Dated′
 use Rattle.calendar.specs.Calendars.{meant, labels, Accepted, IsRecord, Genuine}
 use Rattle.calendar.specs.Rows.{refuses, passes}
-use Rattle.calendar.specs.Promise.{record-of, AtJdn, Given, Month, on-label, AtYmd, on-ordinal, AtOrdinal, Next}
+use Rattle.calendar.specs.Promise.{record-of, AtJdn, Given, on-label, AtYmd, on-ordinal, AtOrdinal, Next}
 use Rattle.calendar.specs.One.{record-one, at-jdn-one}
 
 -- a is the record of day n

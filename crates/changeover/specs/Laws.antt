@@ -8,7 +8,7 @@ use native.Mathlib.Numerals.{add-one}
 use lib.IntN.{pos}
 use Rattle.refusals.specs.Refusals.{refusal}
 use Rattle.days.specs.DayByDay as D
-use Rattle.days.specs.DayByDay.{monthLength}
+use Rattle.days.specs.DayByDay.{monthLength, Month}
 use Rattle.days.specs.Held.{HeldYear}
 use Rattle.days.specs.Year.{yearLength, year-most}
 use Rattle.days.specs.Starts.{Starts}
@@ -19,7 +19,7 @@ use Rattle.days.specs.Table.{there-too}
 use Rattle.days.specs.Steps.{month-some}
 use Rattle.days.specs.Runs.{top, firstDay, first-cases, julianMonth, gregorianMonth, monthFirst, monthPast}
 use Rattle.inner.specs.Natural.{heldYear}
-use Rattle.monthdays.specs.Promise.{Month, OrdinalOf, ordinal, no-ordinal}
+use Rattle.monthdays.specs.Promise.{OrdinalOf, ordinal, no-ordinal}
 use Rattle.monthdays.specs.One.{in-year-ordinal}
 use Rattle.monthdays.specs.Laws.{in-year-valid, in-year-month}
 use Rattle.monthdays.specs.declared.DayOrdinal.the-variants as DayOrdinal′

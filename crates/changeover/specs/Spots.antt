@@ -5,14 +5,13 @@ use mathlib.Core.Bool.{Bool}
 use Prim.Native.Nat.{ℕ, _+_, _-_, _≤_, _<_}
 use lib.IntN.{pos}
 use Rattle.refusals.specs.Refusals.{refusal}
-use Rattle.days.specs.DayByDay.{monthLength}
+use Rattle.days.specs.DayByDay.{monthLength, Month}
 use Rattle.days.specs.Julian as J
 use Rattle.days.specs.Gregorian as G
 use Rattle.days.specs.Numbers.{There, number, daysBefore}
 use Rattle.days.specs.Runs.{top, yearFirst, gregorianMonth, monthFirst, monthPast}
 use Rattle.inner.specs.Natural.{heldYear}
 use Rattle.inner.specs.Spots.{At, spot}
-use Rattle.monthdays.specs.Promise.{Month}
 use Rattle.changeover.specs.declared.MonthSpan.{MonthSpan}
 use Rattle.changeover.specs.declared.Spanned.{Spanned}
 use Rattle.changeover.specs.declared.Spanned.the-variants as Spanned′

@@ -4,8 +4,8 @@
 ghost use mathlib.Core.Path.{_≡_};
 ghost use Prim.Native.Nat.{_<_};
 ghost use Rattle.days.specs.Runs.{firstDay};
+ghost use Rattle.days.specs.DayByDay.{Month};
 ghost use Rattle.inner.specs.Natural.{heldYear};
-ghost use Rattle.monthdays.specs.Promise.{Month};
 ghost use Rattle.changeover.specs.Spots.{Reads, ReadsBelow, Finds, YearSpan, MonthIn, SpansMonth};
 use inner::Spot;
 use monthdays::DayOrdinal;

@@ -3,7 +3,7 @@
 use mathlib.Core.Path.{_≡_}
 use mathlib.Core.Bool.{Bool, not, cond, _&&_}
 use mathlib.Core.List.{List, [], _∷_}
-use Prim.Native.Nat.{ℕ, zero, suc, _-_, _<_, _%_}
+use Prim.Native.Nat.{ℕ, zero, suc, _-_, _<_, _≤_, _%_}
 use lib.Dec.{ltb, eqb}
 use lib.IntN.{ℤ, pos, negsuc, sucℤ, predℤ, natAbs, _+ℤ_, _-ℤ_, _*ℤ_}
 use lib.ListN.{getD}
@@ -38,6 +38,10 @@ monthLengths leap = 31 ∷ cond leap 29 28 ∷ 31 ∷ 30 ∷ 31 ∷ 30 ∷ 31 �
 -- the length of month m; months are counted from 1, and what is no month has no day
 unfoldable pub monthLength : Bool → ℕ → ℕ
 monthLength leap m = getD (0 ∷ monthLengths leap) m 0
+
+-- a month is 1 to 12
+abbrev pub Month : ℕ → Type 0
+Month m = (1 ≤ m) × (m ≤ 12)
 
 -- d divides z
 abbrev pub divides : ℕ → ℤ → Bool

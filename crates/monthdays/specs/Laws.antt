@@ -11,7 +11,7 @@ use lib.IntN.{ℤ, pos, sucℤ}
 use lib.Signed.{_≤ℤ_, clashℤ}
 use Rattle.whole.specs.Tests.{lt-or-ge}
 use Rattle.whole.specs.Integers.{lt-suc, eq-le}
-use Rattle.days.specs.DayByDay.{Label, label, LeapRule, monthLength}
+use Rattle.days.specs.DayByDay.{Label, label, LeapRule, monthLength, Month}
 use Rattle.days.specs.Steps as Steps
 use Rattle.days.specs.Steps.{Valid, after, after-stepping, after-sum, after-valid}
 use Rattle.days.specs.Order.{≺-year}
@@ -21,7 +21,7 @@ use Rattle.days.specs.Numbers.{daysBefore, before, toThirty, monthAt, month-at}
 use Rattle.days.specs.Calendars.{after-later}
 use Rattle.monthdays.specs.declared.MonthDay.the-variants as MonthDay′
 use Rattle.monthdays.specs.declared.DayOrdinal.the-variants as DayOrdinal′
-use Rattle.monthdays.specs.Promise.{InYear, MonthDayOf, month-day, OrdinalOf, ordinal, Month, MonthDayAt}
+use Rattle.monthdays.specs.Promise.{InYear, MonthDayOf, month-day, OrdinalOf, ordinal, MonthDayAt}
 
 first-valid : (rule : LeapRule) (y : ℤ) → Valid rule (label y 1 1)
 first-valid rule y = record { month-from = omega arith; month-to = omega arith; day-from = omega arith; day-to = Steps.month-some (rule y) 1 (omega arith) (omega arith) }

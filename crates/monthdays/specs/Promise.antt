@@ -26,9 +26,6 @@ pub data OrdinalOf (leap : Bool) (m d : ℕ) : DayOrdinal → Type 0 where
   ordinal : {o : ℕ} → InYear leap o m d → OrdinalOf leap m d (DayOrdinal′.At o)
   no-ordinal : ((o : ℕ) → ¬ InYear leap o m d) → OrdinalOf leap m d DayOrdinal′.Nothing
 
-abbrev pub Month : ℕ → Type 0
-Month m = (1 ≤ m) × (m ≤ 12)
-
 -- day d of month m has the place o in a year; past the year's end, in months that would follow by the same arithmetic
 pub record MonthDayAt (leap : Bool) (o m d : ℕ) : Type 0 where
   pub month-is : m ≡ monthAt leap o

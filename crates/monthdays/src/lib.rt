@@ -2,9 +2,9 @@
 
 ghost use mathlib.Core.Path.{_≡_};
 ghost use Prim.Native.Nat.{_+_, _≤_};
-ghost use Rattle.days.specs.DayByDay.{monthLength};
+ghost use Rattle.days.specs.DayByDay.{monthLength, Month};
 ghost use Rattle.days.specs.Numbers.{daysBefore, toThirty};
-ghost use Rattle.monthdays.specs.Promise.{MonthDayOf, OrdinalOf, Month, MonthDayAt};
+ghost use Rattle.monthdays.specs.Promise.{MonthDayOf, OrdinalOf, MonthDayAt};
 
 pub enum MonthDay {
     At(u32, u32),

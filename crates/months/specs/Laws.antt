@@ -11,7 +11,7 @@ use lib.IntN.{ℤ}
 use lib.Signed.{_≤ℤ_}
 use Rattle.whole.specs.Tests.{lt-or-ge}
 use Rattle.whole.specs.Integers.{unbias-le}
-use Rattle.days.specs.DayByDay.{Label, label, Reckoning, labelOf, julian, gregorian, OfYear, OfMonth, Place, monthLength}
+use Rattle.days.specs.DayByDay.{Label, label, Reckoning, labelOf, julian, gregorian, OfYear, OfMonth, Place, monthLength, Month}
 use Rattle.days.specs.Rising.{once, days-one}
 use Rattle.days.specs.Held.{dayBias, day, year, HeldYear}
 use Rattle.days.specs.Year.{yearLength, year-most}
@@ -32,7 +32,7 @@ use Rattle.calendar.specs.declared.Dated.{Dated}
 use Rattle.calendar.specs.declared.Dated.the-variants as Dated′
 use Rattle.calendar.specs.Calendars.{meant, labels}
 use Rattle.calendar.specs.Rows.{refuses, passes}
-use Rattle.calendar.specs.Promise.{Month, Given, AtYmd, on-label}
+use Rattle.calendar.specs.Promise.{Given, AtYmd, on-label}
 use Rattle.calendar.specs.Laws.{found-label, label-row, refused-row, refused-nowhere}
 use Rattle.changeover.specs.declared.MonthSpan.{MonthSpan}
 use Rattle.changeover.specs.declared.Spanned.{Spanned}

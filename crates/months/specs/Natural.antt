@@ -6,13 +6,14 @@ use lib.Dec.{ltb}
 use lib.IntN.{ℤ, pos}
 use Rattle.days.specs.Held.{year, HeldYear}
 use Rattle.days.specs.Runs.{Runs, top}
+use Rattle.days.specs.DayByDay.{Month}
 use Rattle.changeover.specs.declared.MonthSpan.{MonthSpan}
 use Rattle.changeover.specs.declared.Spanned.{Spanned}
 use Rattle.changeover.specs.declared.Spanned.the-variants as Spanned′
 use Rattle.changeover.specs.Spots.{monthSpan}
 use Rattle.calendar.specs.declared.Calendar.{Calendar}
 use Rattle.calendar.specs.Calendars.{meant, Accepted}
-use Rattle.calendar.specs.Promise.{refusal, made-up, Month}
+use Rattle.calendar.specs.Promise.{refusal, made-up}
 
 -- the month m of the year z of an accepted calendar
 pub record SpanOf (c : Calendar) (z : ℤ) (m : ℕ) (s : MonthSpan) : Type 0 where

@@ -6,7 +6,7 @@ use mathlib.Core.Logic.{_⊎_}
 use Prim.Native.Nat.{ℕ, _<_}
 use lib.IntN.{ℤ, pos}
 use lib.Signed.{_≤ℤ_}
-use Rattle.days.specs.DayByDay.{Label, label, Borne, OfMonth, Place, DayOrdinal, YearLength, MonthLength}
+use Rattle.days.specs.DayByDay.{Label, label, Borne, OfMonth, Place, DayOrdinal, YearLength, MonthLength, Month}
 use Rattle.calendar.specs.declared.Calendar.{Calendar}
 use Rattle.refusals.specs.declared.Refusal.{Refusal}
 use Rattle.calendar.specs.declared.Counted.{Counted}
@@ -17,7 +17,7 @@ use Rattle.calendar.specs.declared.Dated.{Dated}
 use Rattle.calendar.specs.declared.Dated.the-variants as Dated′
 use Rattle.calendar.specs.Calendars.{labels, Accepted, Skipped}
 use Rattle.calendar.specs.Rows.{Unless, If}
-use Rattle.calendar.specs.Promise.{refusal, made-up, refused, Month, Missing, Given}
+use Rattle.calendar.specs.Promise.{refusal, made-up, refused, Missing, Given}
 
 abbrev pub refusedNumber : ℕ → ℕ → Counted
 refusedNumber n v = Counted′.Refused (refusal n (pos v))

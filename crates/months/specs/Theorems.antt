@@ -12,7 +12,7 @@ use Rattle.whole.specs.Edge.{unbias-fits-only}
 use Rattle.whole.specs.Tests as N
 use mir.Facts.{leb-yes}
 use Rattle.whole.specs.Integers.{lt-or-ge, lt-le, le-trans, antisym, back-le, back-lt, none-between}
-use Rattle.days.specs.DayByDay.{Label, label, by-month, Rises, monthLength, Is32Bit, gregorian-accepted, Borne, OfMonth, Place, DayOrdinal, Days, YearLength, MonthLength}
+use Rattle.days.specs.DayByDay.{Label, label, by-month, Rises, monthLength, Is32Bit, gregorian-accepted, Borne, OfMonth, Place, DayOrdinal, Days, YearLength, MonthLength, Month}
 use Rattle.days.specs.Order.{≺-month}
 use Rattle.days.specs.Rising.{up-back, year-run, here, days-one, place-one, nth-within}
 use Rattle.days.specs.Spans.{Proper}
@@ -29,7 +29,7 @@ use Rattle.calendar.specs.declared.Dated.{Dated}
 use Rattle.calendar.specs.declared.Dated.the-variants as Dated′
 use Rattle.calendar.specs.Calendars.{meant, labels, Accepted, Skipped}
 use Rattle.calendar.specs.Rows.{Unless, If, refuses, passes}
-use Rattle.calendar.specs.Promise.{Month, Missing, Given, record-of, refused, AtYmd, on-label}
+use Rattle.calendar.specs.Promise.{Missing, Given, record-of, refused, AtYmd, on-label}
 use Rattle.calendar.specs.One.{at-ymd-one}
 use Rattle.months.specs.Promise.{number, YearLengthOf, Len, DayOrdinalOf, IsNth, NthDay, nth-record, NthDate}
 use Rattle.months.specs.One.{label-of-month, is-nth-one, nth-label-one, place-of-one}
