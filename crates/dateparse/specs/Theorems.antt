@@ -1,9 +1,6 @@
--- DEMAND 3, for every accepted calendar and every byte string. It is accepted exactly when it belongs to the date grammar and some 32-bit day
--- bears the date that it writes (`accepts`, `accepted-only`); the record is that day's; no other day bears that date, and no string writes
--- two dates (`one-day`). The year-month-day text of each 32-bit day reads back to that day (`reads-back`), and has at most 14 bytes.
--- And each promise allows one result.
+-- That each promise allows one result, and demand 3: `EveryText` says it, and it holds of every accepted calendar (`every-text`).
 -- Assumes nothing.
-use mathlib.Core.Path.{_≡_, sym, _∙_, ap, subst}
+use mathlib.Core.Path.{_≡_, refl, sym, _∙_, ap, subst}
 use mathlib.Core.List.{List}
 use Prim.Native.Nat.{ℕ, _≤_}
 use native.Mathlib.Omega.{arith}
@@ -26,8 +23,9 @@ use Rattle.calendar.specs.Theorems.{IsRecordOf, ymd-accepts, ymd-only, ordinal-
 use Rattle.writer.specs.Writing.{YmdDecimal}
 use Rattle.writer.specs.Theorems as W
 use Rattle.writer.specs.declared.Written.{Written}
-use Rattle.datetext.specs.Grammar.{Month, OrdinalText, YmdText}
+use Rattle.datetext.specs.Grammar.{Month, YmdText}
 use Rattle.datetext.specs.Theorems as T
+use Rattle.dateparse.specs.EveryText.{Says, says-ymd, says-ordinal, EveryText}
 use Rattle.dateparse.specs.ReadBack.{written-writes}
 use Rattle.dateparse.specs.Promise.{placedAt, ByText, by-fault, by-ordinal, by-ymd, ParseDate, WriteDate}
 
@@ -57,11 +55,7 @@ write-date-one d b = unless-one (λ g p q x y. let (e, f) = W.write-ymd-one x y 
     pair-is : (p q : List ℕ × Written) → p .0 ≡ q .0 → p .1 ≡ q .1 → p ≡ q
     pair-is p q e f = ap (λ (l : List ℕ). (l, p .1)) e ∙ ap (λ (w : Written). (q .0, w)) f
 
--- ---- What a text says of a day: it writes the label of day n, or its year and ordinal
-pub data Says (c : Calendar) (s : List ℕ) (n : ℤ) : Type 0 where
-  says-ymd : {y : ℤ} {m d k : ℕ} → YmdText s y m d k → labels c n ≡ label y m d → Says c s n
-  says-ordinal : {y : ℤ} {o k : ℕ} → OrdinalText s y o k → OfYear y (labels c n) → Place (λ i. OfYear y (labels c i)) n o → Says c s n
-
+-- ---- A text is accepted exactly where a day bears its date
 same-label : {s : List ℕ} {y z : ℤ} {m n d e k j : ℕ} → YmdText s y m d k → YmdText s z n e j → label y m d ≡ label z n e
 same-label {y = y} {z} {m} {n} {d} {e} p q = let (a, b, c, f) = T.one-ymd p q in let w : label y m d ≡ label z n e = cc in w
 
@@ -111,31 +105,44 @@ module _ (c : Calendar) (acc : Accepted c) {s : List ℕ} where
       let (n, f, u, h, i) = ordinal-only c acc (subst (AtOrdinal c y o) (placed-date k w e) g) in (n, f, says-ordinal q u h, i)
 
 -- ---- The text of each 32-bit day reads back to that day
-date-month : (d : Date) → Genuine d → Month (d .month)
-date-month d g =
-    let p = subst (λ (l : Label). (1 ≤ l .month) × (l .month ≤ 12) × (1 ≤ l .day)) (g .is-record .label-is) (labels-proper (meant (d .calendar)) (d .jdn)) in
-    record { first = p .0; last = p .1 }
+module _ (c : Calendar) (acc : Accepted c) {n : ℤ} {d : Date} (f : Is32Bit n) (i : IsRecord c n d) where
+  of-day : (P : Label → Type 0) → P (labels c n) → P (label (d .year) (d .month) (d .day))
+  of-day P = subst P (i .label-is)
 
-module _ (d : Date) (g : Genuine d) (f : Is32Bit (d .jdn)) where
+  month-is : Month (d .month)
+  month-is = let p = of-day (λ (l : Label). (1 ≤ l .month) × (l .month ≤ 12) × (1 ≤ l .day)) (labels-proper (meant c) n) in record { first = p .0; last = p .1 }
+
   from : negsuc 5_884_322 ≤ℤ (d .year)
-  from = subst (λ (l : Label). negsuc 5_884_322 ≤ℤ (l .year)) (g .is-record .label-is) (year-from (g .accepted) f)
+  from = of-day (λ (l : Label). negsuc 5_884_322 ≤ℤ (l .year)) (year-from acc f)
 
   to : (d .year) ≤ℤ pos 5_874_898
-  to = subst (λ (l : Label). (l .year) ≤ℤ pos 5_874_898) (g .is-record .label-is) (year-to (g .accepted) f)
+  to = of-day (λ (l : Label). (l .year) ≤ℤ pos 5_874_898) (year-to acc f)
 
   day-most : d .day ≤ 31
-  day-most = subst (λ (l : Label). l .day ≤ 31) (g .is-record .label-is) (day-to (meant (d .calendar)) (d .jdn))
+  day-most = of-day (λ (l : Label). l .day ≤ 31) (day-to (meant c) n)
 
-  pub reads-back : {t : List ℕ} {a : Dated} → YmdDecimal t (d .year) (d .month) (d .day) → ParseDate (d .calendar) t a → a ≡ Dated′.Date d
+  pub reads-back : {t : List ℕ} {a : Dated} → YmdDecimal t (d .year) (d .month) (d .day) → ParseDate c t a → a ≡ Dated′.Date d
   reads-back w p =
-      let (k, x) = written-writes w (year-fits from to) (date-month d g) (omega (arith, day-most)) in
-      let (t, e, i) = accepts (d .calendar) (g .accepted) f (says-ymd x (g .is-record .label-is)) p in
-      e ∙ ap Dated′.Date (record-one (d .calendar) i (g .is-record))
+      let (k, x) = written-writes w (year-fits from to) month-is (omega (arith, day-most)) in
+      let (t, e, j) = accepts c acc f (says-ymd x (i .label-is)) p in e ∙ ap Dated′.Date (record-one c j i)
 
-  -- so for what write_date has put at the front of a buffer
-  pub written-reads-back : {b b′ : List ℕ} {i : ℕ} {a : Dated} → WriteDate d b (b′, Written.Done i) → ParseDate (d .calendar) (take i b′) a → a ≡ Dated′.Date d
-  written-reads-back (passes x w) q = reads-back (W.written-front w) q
-
-  -- and it has at most 14 bytes
+  -- and has at most 14 bytes
   pub fourteen : {t : List ℕ} → YmdDecimal t (d .year) (d .month) (d .day) → length t ≤ 14
-  fourteen w = W.fourteen w (year-short from to) (date-month d g .last) day-most
+  fourteen w = W.fourteen w (year-short from to) (month-is .last) day-most
+
+-- so for what write_date has put at the front of a buffer
+pub written-reads-back : (d : Date) → Genuine d → Is32Bit (d .jdn) → {b b′ : List ℕ} {i : ℕ} {a : Dated} → WriteDate d b (b′, Written.Done i)
+    → ParseDate (d .calendar) (take i b′) a → a ≡ Dated′.Date d
+written-reads-back d g f (passes x w) q = reads-back (d .calendar) (g .accepted) f (g .is-record) (W.written-front w) q
+
+-- ---- Demand 3
+pub every-text : (c : Calendar) → Accepted c → EveryText c
+every-text c acc =
+    record {
+      accepted = accepts c acc;
+      only-there = accepted-only c acc refl;
+      one-day = one-day c acc;
+      one-date = λ {s} {a} {b}. parse-date-one c s a b;
+      reads-back = λ f i. reads-back c acc f i;
+      short = λ f i. fourteen c acc f i;
+    }
