@@ -1,4 +1,4 @@
--- `calendar::reform_day` meets its contract.
+-- `calendar::reform_day` meets its promise.
 -- Assumes nothing.
 use mathlib.Core.Path.{ap}
 use Prim.Native.Nat.{_-_}
