@@ -1,4 +1,4 @@
--- `buffer::has_room` meets its contract.
+-- `buffer::has_room` meets its promise.
 -- Assumes nothing.
 use Rattle.buffer.specs.Puts.{room-test, no-room-test}
 use Rattle.buffer.proofs.has_room.Statement.{statement}

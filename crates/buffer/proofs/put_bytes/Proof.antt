@@ -1,4 +1,4 @@
--- `buffer::put_bytes` meets its contract. The loop's invariant is `Copying`: the first bytes of the text stand in the buffer. The measure is how many are left.
+-- `buffer::put_bytes` meets its promise. The loop's invariant is `Copying`: the first bytes of the text stand in the buffer. The measure is how many are left.
 -- Assumes nothing.
 use Rattle.buffer.specs.Puts.{Copying, copying-start, copying-on, copying-done}
 use native.Mathlib.Omega.{arith}

@@ -1,4 +1,4 @@
--- `bytesearch::in_four` meets its contract: the bytes before the first that is found are passed.
+-- `bytesearch::in_four` meets its promise: the bytes before the first that is found are passed.
 -- Assumes nothing.
 use Rattle.bytesearch.specs.Laws.{in-four-first, in-four-at, in-four-none, past-one, past-two, past-three, past-four}
 use native.Mathlib.Omega.{arith}

@@ -1,4 +1,4 @@
--- `bytesearch::next_to` meets its contract. The loop's invariant is `Going`: what was passed is without the byte. The measure is what is left of the slice.
+-- `bytesearch::next_to` meets its promise. The loop's invariant is `Going`: what was passed is without the byte. The measure is what is left of the slice.
 -- Assumes nothing.
 use Rattle.bytesearch.specs.Laws.{Going, going-start, going-on, going-found, going-ended}
 use native.Mathlib.Omega.{arith}

@@ -1,4 +1,4 @@
--- `calendar::has_julian_style` meets its contract.
+-- `calendar::has_julian_style` meets its promise.
 -- Assumes nothing.
 use mathlib.Core.Path.{_∙_}
 use Prim.Native.Nat.{_-_}

@@ -1,4 +1,4 @@
--- `calendar::refused_count` meets its contract.
+-- `calendar::refused_count` meets its promise.
 -- Assumes nothing.
 use mathlib.Core.Path.{ap}
 use Prim.Native.Nat.{_-_}

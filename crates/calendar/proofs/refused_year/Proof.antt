@@ -1,4 +1,4 @@
--- `calendar::refused_year` meets its contract.
+-- `calendar::refused_year` meets its promise.
 -- Assumes nothing.
 use mathlib.Core.Path.{_∙_, ap}
 use Prim.Native.Nat.{_-_}

@@ -1,4 +1,4 @@
--- `calendar::switch_of` meets its contract, variant by variant.
+-- `calendar::switch_of` meets its promise, variant by variant.
 -- Assumes nothing.
 use mathlib.Core.Path.{_≡_, sym, subst}
 use Prim.Native.Nat.{_-_}

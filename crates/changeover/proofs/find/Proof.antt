@@ -1,4 +1,4 @@
--- `changeover::find` meets its contract, way by way.
+-- `changeover::find` meets its promise, way by way.
 -- Assumes nothing.
 use Prim.Native.Nat.{_-_}
 use borrow.Author.Needs.{needs}

@@ -1,4 +1,4 @@
--- `changeover::first_day` meets its contract.
+-- `changeover::first_day` meets its promise.
 -- Assumes nothing.
 use mathlib.Core.Path.{sym}
 use Prim.Native.Nat.{_-_}

@@ -1,4 +1,4 @@
--- `changeover::julian_below` meets its contract.
+-- `changeover::julian_below` meets its promise.
 -- Assumes nothing.
 use Prim.Native.Nat.{_-_}
 use borrow.Author.Needs.{needs}

@@ -1,4 +1,4 @@
--- `changeover::month_in` meets its contract.
+-- `changeover::month_in` meets its promise.
 -- Assumes nothing.
 use Prim.Native.Nat.{_-_}
 use native.Mathlib.Omega.{arith}

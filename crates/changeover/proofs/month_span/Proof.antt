@@ -1,4 +1,4 @@
--- `changeover::month_span` meets its contract.
+-- `changeover::month_span` meets its promise.
 -- Assumes nothing.
 use Prim.Native.Nat.{_-_}
 use native.Mathlib.Omega.{arith}

@@ -1,4 +1,4 @@
--- `changeover::reading` meets its contract.
+-- `changeover::reading` meets its promise.
 -- Assumes nothing.
 use Prim.Native.Nat.{_-_}
 use native.Mathlib.Omega.{arith}

@@ -1,4 +1,4 @@
--- `changeover::year_span` meets its contract.
+-- `changeover::year_span` meets its promise.
 -- Assumes nothing.
 use mathlib.Core.Bool.{Bool}
 use mathlib.Core.Path.{_∙_, ap}

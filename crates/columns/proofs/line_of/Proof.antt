@@ -1,4 +1,4 @@
--- `columns::line_of` meets its contract.
+-- `columns::line_of` meets its promise.
 -- Assumes nothing.
 use Rattle.columns.specs.Columns.{lineOf}
 use mathlib.Core.Path.{sym, _∙_, ap}

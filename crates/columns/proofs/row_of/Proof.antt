@@ -1,4 +1,4 @@
--- `columns::row_of` meets its contract: each column is the number of that name, and the weekday that of the day number.
+-- `columns::row_of` meets its promise: each column is the number of that name, and the weekday that of the day number.
 -- Assumes nothing.
 use Rattle.columns.specs.Laws.{row-is}
 use Rattle.days.specs.DayByDay.{weekday}

@@ -1,4 +1,4 @@
--- `dateparse::placed` meets its contract.
+-- `dateparse::placed` meets its promise.
 -- Assumes nothing.
 use mathlib.Core.Bool.{Bool, cond}
 use mathlib.Core.Path.{sym, _∙_, ap}

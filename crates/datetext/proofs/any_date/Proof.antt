@@ -1,4 +1,4 @@
--- `datetext::any_date` meets its contract: each arm is given which answer it has, and `afterYear` computes there.
+-- `datetext::any_date` meets its promise: each arm is given which answer it has, and `afterYear` computes there.
 -- Assumes nothing.
 use mathlib.Core.Path.{sym, ap, _∙_}
 use lib.IntN.{ℤ}

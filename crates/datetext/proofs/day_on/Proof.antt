@@ -1,4 +1,4 @@
--- `datetext::day_on` meets its contract: each arm is given which answer it has, and `afterDay` computes there.
+-- `datetext::day_on` meets its promise: each arm is given which answer it has, and `afterDay` computes there.
 -- Assumes nothing.
 use mathlib.Core.Path.{sym, ap, _∙_}
 use lib.IntN.{ℤ}

@@ -1,4 +1,4 @@
--- `datetext::is_month` meets its contract: `&&` returns its second test where the first holds, and the first where it does not.
+-- `datetext::is_month` meets its promise: `&&` returns its second test where the first holds, and the first where it does not.
 -- Assumes nothing.
 use mathlib.Core.Path.{sym, ap, _∙_}
 use mathlib.Core.Bool.{Bool, false}

@@ -1,4 +1,4 @@
--- `datetext::second_on` meets its contract: each arm is given which answer it has, and `afterSecond` computes there.
+-- `datetext::second_on` meets its promise: each arm is given which answer it has, and `afterSecond` computes there.
 -- Assumes nothing.
 use mathlib.Core.Path.{sym, ap, _∙_}
 use lib.IntN.{ℤ}

@@ -1,4 +1,4 @@
--- `datetext::year_on` meets its contract: each arm is given which answer it has, and `afterDash` computes there.
+-- `datetext::year_on` meets its promise: each arm is given which answer it has, and `afterDash` computes there.
 -- Assumes nothing.
 use mathlib.Core.Path.{sym, ap, _∙_}
 use lib.IntN.{ℤ}

@@ -1,4 +1,4 @@
--- `decimals::width` meets its contract. The loop's invariant is `Counting`: what is still to be counted comes to the whole with what was. The measure is the rest.
+-- `decimals::width` meets its promise. The loop's invariant is `Counting`: what is still to be counted comes to the whole with what was. The measure is the rest.
 -- Assumes nothing.
 use mathlib.Core.Path.{refl}
 use Prim.Native.Nat.{ℕ, _≤_, _<_, _^_}

@@ -1,4 +1,4 @@
--- `digits::digit_at` meets its contract: the difference wraps as `digitValue` does.
+-- `digits::digit_at` meets its promise: the difference wraps as `digitValue` does.
 -- Assumes nothing.
 use native.Mathlib.Omega.{arith}
 use Rattle.digits.specs.Few.{digit-past, digit-here}

@@ -1,4 +1,4 @@
--- `digits::is_digit` meets its contract: `&&` returns its second test where the first holds, and the first where it does not.
+-- `digits::is_digit` meets its promise: `&&` returns its second test where the first holds, and the first where it does not.
 -- Assumes nothing.
 use mathlib.Core.Path.{sym, ap, _∙_}
 use mathlib.Core.Bool.{Bool, false}

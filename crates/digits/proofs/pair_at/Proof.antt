@@ -1,4 +1,4 @@
--- `digits::pair_at` meets its contract: both digits are those at their places.
+-- `digits::pair_at` meets its promise: both digits are those at their places.
 -- Assumes nothing.
 use native.Mathlib.Omega.{arith}
 use Rattle.digits.specs.Few.{digit-seen, pair-first, pair-second, pair-yes}

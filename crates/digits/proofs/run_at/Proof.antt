@@ -1,4 +1,4 @@
--- `digits::run_at` meets its contract. The loop's invariant is `Along`: what is still to come takes the number and the place to those of the
+-- `digits::run_at` meets its promise. The loop's invariant is `Along`: what is still to come takes the number and the place to those of the
 -- whole run. The measure is what is left of the slice.
 -- Assumes nothing.
 use mathlib.Core.Path.{sym, _∙_}

@@ -1,4 +1,4 @@
--- `digits::run_ends` meets its contract: the test is that of `endsOf`.
+-- `digits::run_ends` meets its promise: the test is that of `endsOf`.
 -- Assumes nothing.
 use mathlib.Core.Path.{sym}
 use borrow.Author.Tests.{eq-eqb, ne-eqb}

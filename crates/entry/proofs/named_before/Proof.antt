@@ -1,4 +1,4 @@
--- `entry::named_before` meets its contract.
+-- `entry::named_before` meets its promise.
 -- Assumes nothing.
 use lib.Seq.{length-take-le}
 use mathlib.Core.Path.{sym}

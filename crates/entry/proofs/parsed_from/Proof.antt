@@ -1,4 +1,4 @@
--- `entry::parsed_from` meets its contract: the part of the line goes on to its end.
+-- `entry::parsed_from` meets its promise: the part of the line goes on to its end.
 -- Assumes nothing.
 use Rattle.entry.specs.Laws.{to-the-end}
 use borrow.Author.Needs.{needs}

@@ -1,4 +1,4 @@
--- `entry::text_from` meets its contract.
+-- `entry::text_from` meets its promise.
 -- Assumes nothing.
 use Rattle.entry.specs.Laws.{TextFrom}
 use mathlib.Core.Path.{refl}

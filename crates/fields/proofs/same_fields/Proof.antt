@@ -1,4 +1,4 @@
--- `fields::same_fields` meets its contract, field by field.
+-- `fields::same_fields` meets its promise, field by field.
 -- Assumes nothing.
 use mathlib.Core.Path.{sym, _∙_, ap}
 use Prim.Native.Nat.{_-_}

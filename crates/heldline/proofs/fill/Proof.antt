@@ -1,4 +1,4 @@
--- `heldline::fill` meets its contract: the bytes fit, and stand after those that were held; or the line is too long.
+-- `heldline::fill` meets its promise: the bytes fit, and stand after those that were held; or the line is too long.
 -- Assumes nothing.
 use Rattle.heldline.specs.Laws.{fills-to, fills-over}
 use borrow.Author.Needs.{needs}

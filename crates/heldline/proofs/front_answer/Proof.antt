@@ -1,4 +1,4 @@
--- `heldline::front_answer` meets its contract.
+-- `heldline::front_answer` meets its promise.
 -- Assumes nothing.
 use mathlib.Core.Path.{sym}
 use lib.Seq.{length-take-le}

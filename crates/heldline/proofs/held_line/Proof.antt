@@ -1,4 +1,4 @@
--- `heldline::held_line` meets its contract.
+-- `heldline::held_line` meets its promise.
 -- Assumes nothing.
 use Rattle.heldline.specs.Held.{HeldAnswer, HeldAs}
 use borrow.Author.Needs.{needs}

@@ -1,4 +1,4 @@
--- `inner::day_number` meets its contract.
+-- `inner::day_number` meets its promise.
 -- Assumes nothing.
 use borrow.Author.Needs.{needs}
 use Rattle.inner.specs.Laws.{lowers-below, lowers-above, lowers-within}

@@ -1,4 +1,4 @@
--- `inner::decompose_julian` meets its contract.
+-- `inner::decompose_julian` meets its promise.
 -- Assumes nothing.
 use borrow.Author.Needs.{needs}
 use Rattle.inner.specs.Laws.{by-quarters}

@@ -1,4 +1,4 @@
--- `inner::gregorian2jdn` meets its contract.
+-- `inner::gregorian2jdn` meets its promise.
 -- Assumes nothing.
 use mathlib.Core.Path.{_∙_}
 use borrow.Author.Needs.{needs}

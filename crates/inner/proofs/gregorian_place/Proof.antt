@@ -1,4 +1,4 @@
--- `inner::gregorian_place` meets its contract: the year of a 32-bit day has 32 bits.
+-- `inner::gregorian_place` meets its promise: the year of a 32-bit day has 32 bits.
 -- Assumes nothing.
 use mathlib.Core.Path.{_≡_, sym, subst}
 use Prim.Native.Nat.{ℕ, _+_, _-_, _*_, _/_, _%_}

@@ -1,4 +1,4 @@
--- `inner::is_gregorian_leap` meets its contract.
+-- `inner::is_gregorian_leap` meets its promise.
 -- Assumes nothing.
 use borrow.Author.Needs.{needs}
 use Rattle.inner.specs.Natural.{heldYear}

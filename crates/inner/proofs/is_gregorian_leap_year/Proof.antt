@@ -1,4 +1,4 @@
--- `inner::is_gregorian_leap_year` meets its contract.
+-- `inner::is_gregorian_leap_year` meets its promise.
 -- Assumes nothing.
 use mathlib.Core.Path.{_∙_, sym, ap}
 use borrow.Author.Needs.{needs}

@@ -1,4 +1,4 @@
--- `inner::jdn2gregorian` meets its contract.
+-- `inner::jdn2gregorian` meets its promise.
 -- Assumes nothing.
 use Rattle.days.specs.Range.{gregorian-year}
 use mathlib.Core.Path.{_∙_, sym}

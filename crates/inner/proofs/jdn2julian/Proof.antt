@@ -1,4 +1,4 @@
--- `inner::jdn2julian` meets its contract.
+-- `inner::jdn2julian` meets its promise.
 -- Assumes nothing.
 use Rattle.days.specs.Range.{julian-year}
 use mathlib.Core.Path.{_∙_, sym}

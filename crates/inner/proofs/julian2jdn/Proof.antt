@@ -1,4 +1,4 @@
--- `inner::julian2jdn` meets its contract.
+-- `inner::julian2jdn` meets its promise.
 -- Assumes nothing.
 use mathlib.Core.Path.{_∙_}
 use borrow.Author.Needs.{needs}

@@ -1,4 +1,4 @@
--- `inner::julian_place` meets its contract: the year of a 32-bit day has 32 bits.
+-- `inner::julian_place` meets its promise: the year of a 32-bit day has 32 bits.
 -- Assumes nothing.
 use native.Mathlib.Omega.{arith}
 use borrow.Author.Needs.{needs}
@@ -9,7 +9,7 @@ use Rattle.inner.specs.Laws.{raised-day-held, spot-again}
 use Rattle.inner.proofs.julian_place.Statement.{statement}
 use Rattle.inner.proofs.julian_place.Tie as tie
 
--- `inner::julian_place` meets its contract: the year of a 32-bit day has 32 bits.
+-- `inner::julian_place` meets its promise: the year of a 32-bit day has 32 bits.
 -- Assumes nothing.
 
 add-decompose-julian : tie.Need-add-decompose-julian

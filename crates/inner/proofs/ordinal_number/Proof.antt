@@ -1,4 +1,4 @@
--- `inner::ordinal_number` meets its contract.
+-- `inner::ordinal_number` meets its promise.
 -- Assumes nothing.
 use native.Mathlib.Omega.{arith}
 use borrow.Author.Needs.{needs}

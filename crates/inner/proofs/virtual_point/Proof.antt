@@ -1,4 +1,4 @@
--- `inner::virtual_point` meets its contract: in the first year of a cycle the quotient is truncated to 0, later it is the floor.
+-- `inner::virtual_point` meets its promise: in the first year of a cycle the quotient is truncated to 0, later it is the floor.
 -- Assumes nothing.
 use native.Mathlib.Omega.{arith}
 use borrow.Author.Needs.{needs}

@@ -1,4 +1,4 @@
--- `linetext::put_apart` meets its contract: the text stands at the front of a buffer of its own, from where it is copied, or it has no room.
+-- `linetext::put_apart` meets its promise: the text stands at the front of a buffer of its own, from where it is copied, or it has no room.
 -- Assumes nothing.
 use Rattle.linetext.specs.Laws.{lined, apart-part, apart-done, apart-left}
 use borrow.Author.Needs.{needs}

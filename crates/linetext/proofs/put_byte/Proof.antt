@@ -1,4 +1,4 @@
--- `linetext::put_byte` meets its contract: a byte stored is a text of one byte put there.
+-- `linetext::put_byte` meets its promise: a byte stored is a text of one byte put there.
 -- Assumes nothing.
 use mathlib.Core.Path.{refl}
 use Rattle.buffer.specs.Puts.{put-byte}

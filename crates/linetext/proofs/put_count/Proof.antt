@@ -1,4 +1,4 @@
--- `linetext::put_count` meets its contract.
+-- `linetext::put_count` meets its promise.
 -- Assumes nothing.
 use Rattle.linetext.specs.Laws.{count-column}
 use borrow.Author.Needs.{needs}

@@ -1,4 +1,4 @@
--- `linetext::put_either` meets its contract.
+-- `linetext::put_either` meets its promise.
 -- Assumes nothing.
 use Rattle.linetext.specs.Laws.{line-as}
 use borrow.Author.Needs.{needs}

@@ -1,4 +1,4 @@
--- `linetext::put_large` meets its contract: with room for twenty digits nothing is refused.
+-- `linetext::put_large` meets its promise: with room for twenty digits nothing is refused.
 -- Assumes nothing.
 use Rattle.linetext.specs.Laws.{large-done, large-never}
 use borrow.Author.Needs.{needs}

@@ -1,4 +1,4 @@
--- `linetext::put_line` meets its contract.
+-- `linetext::put_line` meets its promise.
 -- Assumes nothing.
 use Rattle.linetext.specs.Laws.{lined, text-wrote}
 use borrow.Author.Tests.{leb-true}

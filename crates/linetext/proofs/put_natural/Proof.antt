@@ -1,4 +1,4 @@
--- `linetext::put_natural` meets its contract: the digits above the last four, and those (`so-eight`).
+-- `linetext::put_natural` meets its promise: the digits above the last four, and those (`so-eight`).
 -- Assumes nothing.
 use native.Mathlib.Omega.{arith}
 use Rattle.linetext.specs.Laws.{text-as, so-eight}

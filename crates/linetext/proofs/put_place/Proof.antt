@@ -1,4 +1,4 @@
--- `linetext::put_place` meets its contract: four columns, joined from the last one on.
+-- `linetext::put_place` meets its promise: four columns, joined from the last one on.
 -- Assumes nothing.
 use Rattle.linetext.specs.Laws.{last-cell, cell-before, ends}
 use native.Mathlib.Omega.{arith}

@@ -1,4 +1,4 @@
--- `linetext::put_refusal` meets its contract: the mark, and three columns joined from the last one on.
+-- `linetext::put_refusal` meets its promise: the mark, and three columns joined from the last one on.
 -- Assumes nothing.
 use mir.Facts.{toZ-ofZ}
 use borrow.Author.Needs.{needs, sfits-of}

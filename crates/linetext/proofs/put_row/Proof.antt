@@ -1,4 +1,4 @@
--- `linetext::put_row` meets its contract: two signed columns before the others (`row-columns`).
+-- `linetext::put_row` meets its promise: two signed columns before the others (`row-columns`).
 -- Assumes nothing.
 use Rattle.linetext.specs.Laws.{row-columns}
 use native.Mathlib.Omega.{arith}

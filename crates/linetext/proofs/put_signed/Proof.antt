@@ -1,4 +1,4 @@
--- `linetext::put_signed` meets its contract.
+-- `linetext::put_signed` meets its promise.
 -- Assumes nothing.
 use Rattle.linetext.specs.Laws.{so-minus, so-plus}
 use borrow.Author.Needs.{needs}

@@ -1,4 +1,4 @@
--- `linetext::put_small` meets its contract: the comparisons tell how many digits there are.
+-- `linetext::put_small` meets its promise: the comparisons tell how many digits there are.
 -- Assumes nothing.
 use Rattle.linetext.specs.Laws.{so-number}
 use native.Mathlib.Omega.{arith}

@@ -1,4 +1,4 @@
--- `linetext::put_three` meets its contract: the digits before the last two, and those (`so-pair`).
+-- `linetext::put_three` meets its promise: the digits before the last two, and those (`so-pair`).
 -- Assumes nothing.
 use Rattle.linetext.specs.Laws.{so-pair}
 use borrow.Author.Needs.{needs}

@@ -1,4 +1,4 @@
--- `linetext::put_two` meets its contract: the digits before the last, and that one (`so-digit`).
+-- `linetext::put_two` meets its promise: the digits before the last, and that one (`so-digit`).
 -- Assumes nothing.
 use Rattle.linetext.specs.Laws.{so-digit}
 use borrow.Author.Needs.{needs}

@@ -1,4 +1,4 @@
--- `linetext::put_whole` meets its contract.
+-- `linetext::put_whole` meets its promise.
 -- Assumes nothing.
 use Rattle.linetext.specs.Laws.{whole-column}
 use mathlib.Core.Path.{ap, _∙_}

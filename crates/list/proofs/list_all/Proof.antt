@@ -1,4 +1,4 @@
--- `list::list_all` meets its contract. Each turn reads the block further on, and the output keeps its length.
+-- `list::list_all` meets its promise. Each turn reads the block further on, and the output keeps its length.
 -- Assumes nothing.
 use mathlib.Core.Path.{_≡_, refl, _∙_}
 use Prim.Native.Nat.{_-_}

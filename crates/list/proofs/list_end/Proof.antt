@@ -1,4 +1,4 @@
--- `list::list_end` meets its contract: what was written lies in the buffer.
+-- `list::list_end` meets its promise: what was written lies in the buffer.
 -- Assumes nothing.
 use Rattle.listing.specs.Blocks.{wrote-inside}
 use borrow.Author.Needs.{needs}

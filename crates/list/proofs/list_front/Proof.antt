@@ -1,4 +1,4 @@
--- `list::list_front` meets its contract.
+-- `list::list_front` meets its promise.
 -- Assumes nothing.
 use lib.Seq.{length-take-le}
 use mathlib.Core.Path.{sym}

@@ -1,4 +1,4 @@
--- `list::list_input` meets its contract. The measure is the number of reads that are left.
+-- `list::list_input` meets its promise. The measure is the number of reads that are left.
 -- Assumes nothing.
 use native.Mathlib.Omega.{arith}
 use Prim.{Unit}

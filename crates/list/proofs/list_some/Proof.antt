@@ -1,4 +1,4 @@
--- `list::list_some` meets its contract: `list_block` goes on in the block, and what it wrote lies in the buffer.
+-- `list::list_some` meets its promise: `list_block` goes on in the block, and what it wrote lies in the buffer.
 -- Assumes nothing.
 use Rattle.listing.specs.Blocks.{lists-inside, lists-grow}
 use lib.Seq.{length-take-le}

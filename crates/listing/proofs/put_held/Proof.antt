@@ -1,4 +1,4 @@
--- `listing::put_held` meets its contract: with room for the longest line nothing is refused.
+-- `listing::put_held` meets its promise: with room for the longest line nothing is refused.
 -- Assumes nothing.
 use Rattle.listing.specs.Blocks.{held-wrote, held-room}
 use borrow.Author.Needs.{needs}

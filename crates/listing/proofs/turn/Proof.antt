@@ -1,4 +1,4 @@
--- `listing::turn` meets its contract: the line ends in the block, or the block in the line.
+-- `listing::turn` meets its promise: the line ends in the block, or the block in the line.
 -- Assumes nothing.
 use Rattle.listing.specs.Blocks.{turn-rest, turn-line}
 use Rattle.bytesearch.specs.Laws.{up-to-inside}

@@ -1,4 +1,4 @@
--- `listing_known::front` meets its contract.
+-- `listing_known::front` meets its promise.
 -- Assumes nothing.
 use lib.Seq.{length-take-le}
 use mathlib.Core.Path.{sym}

@@ -1,4 +1,4 @@
--- `listing_known::list_cut` meets its contract.
+-- `listing_known::list_cut` meets its promise.
 -- Assumes nothing.
 use lib.Seq.{length-take-le}
 use mathlib.Core.Path.{sym}

@@ -1,4 +1,4 @@
--- `listing_known::same_ways` meets its contract. The output keeps its length, and each turn cuts one byte further on.
+-- `listing_known::same_ways` meets its promise. The output keeps its length, and each turn cuts one byte further on.
 -- Assumes nothing.
 use native.Mathlib.Omega.{arith}
 use mathlib.Core.Path.{_≡_, refl, _∙_}

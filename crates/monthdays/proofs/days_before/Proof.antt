@@ -1,4 +1,4 @@
--- `monthdays::days_before` meets its contract.
+-- `monthdays::days_before` meets its promise.
 -- Assumes nothing.
 use Prim.Native.Nat.{_*_, _-_, _/_}
 use native.Mathlib.Omega.{arith}

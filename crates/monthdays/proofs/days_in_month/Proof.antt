@@ -1,4 +1,4 @@
--- `monthdays::days_in_month` meets its contract, arm by arm.
+-- `monthdays::days_in_month` meets its promise, arm by arm.
 -- Assumes nothing.
 use native.Mathlib.Omega.{arith}
 use mathlib.Core.Path.{sym, _∙_, ap}

@@ -1,4 +1,4 @@
--- `monthdays::md2ordinal` meets its contract.
+-- `monthdays::md2ordinal` meets its promise.
 -- Assumes nothing.
 use native.Mathlib.Omega.{arith}
 use borrow.Author.Needs.{needs}

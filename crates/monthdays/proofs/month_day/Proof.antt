@@ -1,4 +1,4 @@
--- `monthdays::month_day` meets its contract.
+-- `monthdays::month_day` meets its promise.
 -- Assumes nothing.
 use mathlib.Core.Path.{refl}
 use Prim.Native.Nat.{_+_, _*_, _/_}

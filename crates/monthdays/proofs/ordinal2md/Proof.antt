@@ -1,4 +1,4 @@
--- `monthdays::ordinal2md` meets its contract.
+-- `monthdays::ordinal2md` meets its promise.
 -- Assumes nothing.
 use mathlib.Core.Path.{_≡_, subst}
 use Prim.Native.Nat.{ℕ, _+_, _-_}

@@ -1,4 +1,4 @@
--- `monthdays::to_thirty` meets its contract.
+-- `monthdays::to_thirty` meets its promise.
 -- Assumes nothing.
 use Prim.Native.Nat.{_+_}
 use native.Mathlib.Omega.{arith}

@@ -1,4 +1,4 @@
--- `months::day_in` meets its contract.
+-- `months::day_in` meets its promise.
 -- Assumes nothing.
 use mathlib.Core.Path.{sym}
 use Prim.Native.Nat.{_-_}

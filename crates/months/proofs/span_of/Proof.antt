@@ -1,4 +1,4 @@
--- `months::span_of` meets its contract.
+-- `months::span_of` meets its promise.
 -- Assumes nothing.
 use mathlib.Core.Path.{_∙_}
 use Prim.Native.Nat.{_-_}

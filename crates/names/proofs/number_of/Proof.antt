@@ -1,4 +1,4 @@
--- `names::number_of` meets its contract: one law for the names of a length, whose test is computed for each length.
+-- `names::number_of` meets its promise: one law for the names of a length, whose test is computed for each length.
 -- Assumes nothing.
 use borrow.Author.Needs.{needs}
 use lib.ListN.{length}

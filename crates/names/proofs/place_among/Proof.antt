@@ -1,4 +1,4 @@
--- `names::place_among` meets its contract: the parts passed are not the name. The measure is what is left of the letters.
+-- `names::place_among` meets its promise: the parts passed are not the name. The measure is what is left of the letters.
 -- Assumes nothing.
 use Prim.Native.Nat.{_+_, _-_, _≤_}
 use native.Mathlib.Omega.{arith}

@@ -1,4 +1,4 @@
--- `names::stands_at` meets its contract: the bytes passed are alike. The measure is what is left of the length.
+-- `names::stands_at` meets its promise: the bytes passed are alike. The measure is what is left of the length.
 -- Assumes nothing.
 use mathlib.Core.Path.{_≡_}
 use Prim.Native.Nat.{ℕ, _+_, _-_, _≤_, _<_}

@@ -1,4 +1,4 @@
--- `ncal::calendar_at` meets its contract: the tables of the code have the calendars of the names, computed.
+-- `ncal::calendar_at` meets its promise: the tables of the code have the calendars of the names, computed.
 -- Assumes nothing.
 use Prim.Native.Nat.{_-_}
 use native.Mathlib.Omega.{arith}

@@ -1,4 +1,4 @@
--- `numbertext::dash_at` meets its contract: at each return the tests that led there say which case holds.
+-- `numbertext::dash_at` meets its promise: at each return the tests that led there say which case holds.
 -- Assumes nothing.
 use mathlib.Core.Path.{sym, ap, _∙_}
 use Rattle.numbertext.specs.Meaning.{dash-meant}

@@ -1,4 +1,4 @@
--- `numbertext::ended_at` meets its contract: the test is that of `endedAt`.
+-- `numbertext::ended_at` meets its promise: the test is that of `endedAt`.
 -- Assumes nothing.
 use mathlib.Core.Path.{sym, _∙_}
 use borrow.Author.Needs.{needs}

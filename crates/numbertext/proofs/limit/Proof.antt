@@ -1,4 +1,4 @@
--- `numbertext::limit` meets its contract: the test is that of `limitOf`.
+-- `numbertext::limit` meets its promise: the test is that of `limitOf`.
 -- Assumes nothing.
 use mathlib.Core.Path.{sym, ap}
 use Rattle.numbertext.specs.Reading.{limitOf}

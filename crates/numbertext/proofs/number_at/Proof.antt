@@ -1,4 +1,4 @@
--- `numbertext::number_at` meets its contract: at each return the tests that led there say which case holds.
+-- `numbertext::number_at` meets its promise: at each return the tests that led there say which case holds.
 -- Assumes nothing.
 use mathlib.Core.Path.{sym, ap, _∙_}
 use Prim.Native.Nat.{ℕ, _≤_, _<_, _^_}

@@ -1,4 +1,4 @@
--- `numbertext::refusal` meets its contract: a value that was counted is read back from its bits.
+-- `numbertext::refusal` meets its promise: a value that was counted is read back from its bits.
 -- Assumes nothing.
 use mathlib.Core.Path.{ap, _∙_}
 use mir.Facts.{toZ-ofZ}

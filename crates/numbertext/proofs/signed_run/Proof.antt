@@ -1,4 +1,4 @@
--- `numbertext::signed_run` meets its contract: the magnitude that the run tells is in the range, so that `whole::signed` brings it into 32 bits.
+-- `numbertext::signed_run` meets its promise: the magnitude that the run tells is in the range, so that `whole::signed` brings it into 32 bits.
 -- Assumes nothing.
 use mathlib.Core.Path.{sym, ap, _∙_}
 use Rattle.numbertext.specs.Places.{signed-as, signed-value, never-above, never-below}

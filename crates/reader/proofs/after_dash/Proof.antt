@@ -1,4 +1,4 @@
--- `reader::after_dash` meets its contract: each arm is given which answer it has, and `afterDash` computes there.
+-- `reader::after_dash` meets its promise: each arm is given which answer it has, and `afterDash` computes there.
 -- Assumes nothing.
 use borrow.Author.Needs.{needs}
 use Rattle.reader.proofs.after_dash.Statement.{statement}

@@ -1,4 +1,4 @@
--- `reader::after_number` meets its contract: each arm is given which answer it has, and `afterNumber` computes there.
+-- `reader::after_number` meets its promise: each arm is given which answer it has, and `afterNumber` computes there.
 -- Assumes nothing.
 use borrow.Author.Needs.{needs}
 use Rattle.reader.proofs.after_number.Statement.{statement}

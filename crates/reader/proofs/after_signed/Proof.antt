@@ -1,4 +1,4 @@
--- `reader::after_signed` meets its contract: each arm is given which answer it has, and `afterSigned` computes there.
+-- `reader::after_signed` meets its promise: each arm is given which answer it has, and `afterSigned` computes there.
 -- Assumes nothing.
 use borrow.Author.Needs.{needs}
 use Rattle.reader.proofs.after_signed.Statement.{statement}

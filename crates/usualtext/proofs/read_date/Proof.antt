@@ -1,4 +1,4 @@
--- `usualtext::read_date` meets its contract: a year that is found takes the text to the second number.
+-- `usualtext::read_date` meets its promise: a year that is found takes the text to the second number.
 -- Assumes nothing.
 use mathlib.Core.Path.{sym, ap, _∙_}
 use native.Mathlib.Omega.{arith}

@@ -1,4 +1,4 @@
--- `usualtext::usual_day` meets its contract: what is left of the text are the digits of the day.
+-- `usualtext::usual_day` meets its promise: what is left of the text are the digits of the day.
 -- Assumes nothing.
 use native.Mathlib.Omega.{arith}
 use Rattle.digits.specs.Few.{digit-seen, pair-seen}

@@ -1,4 +1,4 @@
--- `usualtext::usual_month` meets its contract: the digits before the dash are those of the month.
+-- `usualtext::usual_month` meets its promise: the digits before the dash are those of the month.
 -- Assumes nothing.
 use mathlib.Core.Path.{sym, _∙_}
 use native.Mathlib.Omega.{arith}

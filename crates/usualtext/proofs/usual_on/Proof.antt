@@ -1,4 +1,4 @@
--- `usualtext::usual_on` meets its contract: each part that is found takes the text a step further, and the rest is read as any text is.
+-- `usualtext::usual_on` meets its promise: each part that is found takes the text a step further, and the rest is read as any text is.
 -- Assumes nothing.
 use mathlib.Core.Path.{sym, ap, _∙_}
 use lib.IntN.{ℤ}

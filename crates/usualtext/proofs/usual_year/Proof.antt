@@ -1,4 +1,4 @@
--- `usualtext::usual_year` meets its contract: the digits before the dash are those of the year.
+-- `usualtext::usual_year` meets its promise: the digits before the dash are those of the year.
 -- Assumes nothing.
 use native.Mathlib.Omega.{arith}
 use Rattle.digits.specs.Few.{digit-seen}

@@ -1,4 +1,4 @@
--- `usualtext::year_at` meets its contract: the hundreds and two digits after them write the year.
+-- `usualtext::year_at` meets its promise: the hundreds and two digits after them write the year.
 -- Assumes nothing.
 use native.Mathlib.Omega.{arith}
 use Rattle.digits.specs.Few.{pair-seen}

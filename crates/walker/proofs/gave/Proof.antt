@@ -1,4 +1,4 @@
--- `walker::gave` meets its contract.
+-- `walker::gave` meets its promise.
 -- Assumes nothing.
 use Prim.Native.Nat.{_-_}
 use borrow.Author.Needs.{needs}

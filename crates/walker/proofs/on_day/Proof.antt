@@ -1,4 +1,4 @@
--- `walker::on_day` meets its contract.
+-- `walker::on_day` meets its promise.
 -- Assumes nothing.
 use mathlib.Core.Path.{sym, _∙_, ap, subst}
 use Prim.Native.Nat.{_-_}

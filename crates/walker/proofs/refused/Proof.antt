@@ -1,4 +1,4 @@
--- `walker::refused` meets its contract.
+-- `walker::refused` meets its promise.
 -- Assumes nothing.
 use mathlib.Core.Path.{ap}
 use Prim.Native.Nat.{_-_}

@@ -1,4 +1,4 @@
--- `ways::ahead` meets its contract.
+-- `ways::ahead` meets its promise.
 -- Assumes nothing.
 use mathlib.Core.Path.{_≡_, sym, _∙_}
 use Prim.Native.Nat.{_-_, _≤_, _^_}

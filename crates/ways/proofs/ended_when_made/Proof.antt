@@ -1,4 +1,4 @@
--- `ways::ended_when_made` meets its contract.
+-- `ways::ended_when_made` meets its promise.
 -- Assumes nothing.
 use mathlib.Core.Path.{sym, _∙_}
 use Prim.Native.Nat.{_-_}

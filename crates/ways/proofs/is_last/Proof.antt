@@ -1,4 +1,4 @@
--- `ways::is_last` meets its contract.
+-- `ways::is_last` meets its promise.
 -- Assumes nothing.
 use mathlib.Core.Path.{sym, _∙_}
 use Prim.Native.Nat.{_-_}

@@ -1,4 +1,4 @@
--- `ways::on_the_last` meets its contract.
+-- `ways::on_the_last` meets its promise.
 -- Assumes nothing.
 use mathlib.Core.Path.{sym, _∙_, ap}
 use mathlib.Core.Bool.{not}

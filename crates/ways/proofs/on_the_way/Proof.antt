@@ -1,4 +1,4 @@
--- `ways::on_the_way` meets its contract.
+-- `ways::on_the_way` meets its promise.
 -- Assumes nothing.
 use mathlib.Core.Path.{_≡_, sym, _∙_, ap, subst}
 use mathlib.Core.Bool.{true}

@@ -1,4 +1,4 @@
--- `writer::put_at` meets its contract: there is room for the number and it is put there, or the buffer is left.
+-- `writer::put_at` meets its promise: there is room for the number and it is put there, or the buffer is left.
 -- Assumes nothing.
 use denote.Ref.{now}
 use Rattle.writer.specs.Puts.{room-for, signed-wrote, signed-left}

@@ -1,4 +1,4 @@
--- `writer::put_dashed` meets its contract: the byte and the digits after it are put one after the other.
+-- `writer::put_dashed` meets its promise: the byte and the digits after it are put one after the other.
 -- Assumes nothing.
 use mathlib.Core.Path.{_∙_}
 use native.Mathlib.Omega.{arith}

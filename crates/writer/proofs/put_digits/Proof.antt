@@ -1,4 +1,4 @@
--- `writer::put_digits` meets its contract. The loop's invariant is `Filling`: what is still to be put takes the buffer to the whole. The measure is how many digits are left.
+-- `writer::put_digits` meets its promise. The loop's invariant is `Filling`: what is still to be put takes the buffer to the whole. The measure is how many digits are left.
 -- Assumes nothing.
 use mathlib.Core.Path.{refl, sym, ap}
 use Prim.Native.Nat.{ℕ, _+_}

@@ -1,4 +1,4 @@
--- `writer::put_number` meets its contract.
+-- `writer::put_number` meets its promise.
 -- Assumes nothing.
 use Rattle.writer.specs.Puts.{as-number}
 use borrow.Author.Needs.{needs}

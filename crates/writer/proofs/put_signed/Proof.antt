@@ -1,4 +1,4 @@
--- `writer::put_signed` meets its contract: a dash and the digits, or the digits alone.
+-- `writer::put_signed` meets its promise: a dash and the digits, or the digits alone.
 -- Assumes nothing.
 use Prim.Native.Nat.{_+_, _≤_}
 use mathlib.Core.Path.{subst}

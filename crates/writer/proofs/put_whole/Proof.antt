@@ -1,4 +1,4 @@
--- `writer::put_whole` meets its contract.
+-- `writer::put_whole` meets its promise.
 -- Assumes nothing.
 use mathlib.Core.Path.{ap, _∙_}
 use lib.IntN.{natAbs}

@@ -1,4 +1,4 @@
--- `writer::signed_width` meets its contract: the test is that of `wholeWidth`.
+-- `writer::signed_width` meets its promise: the test is that of `wholeWidth`.
 -- Assumes nothing.
 use mathlib.Core.Path.{sym, ap}
 use mathlib.Core.Bool.{Bool}

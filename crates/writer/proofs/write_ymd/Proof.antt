@@ -1,4 +1,4 @@
--- `writer::write_ymd` meets its contract: a buffer that is too short is left, and else the three numbers stand one after the other at its front.
+-- `writer::write_ymd` meets its promise: a buffer that is too short is left, and else the three numbers stand one after the other at its front.
 -- Assumes nothing.
 use mathlib.Core.Path.{ap, _∙_}
 use mathlib.Core.Bool.{true}

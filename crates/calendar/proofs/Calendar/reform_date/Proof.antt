@@ -1,4 +1,4 @@
--- `calendar::Calendar::reform_date` meets its contract.
+-- `calendar::Calendar::reform_date` meets its promise.
 -- Assumes nothing.
 use mathlib.Core.Path.{_≡_, sym, _∙_, ap, subst}
 use Prim.Native.Nat.{_-_, _≤_, _^_}

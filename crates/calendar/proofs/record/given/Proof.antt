@@ -1,4 +1,4 @@
--- `calendar::record::given` meets its contract.
+-- `calendar::record::given` meets its promise.
 -- Assumes nothing.
 use mathlib.Core.Path.{sym, _∙_}
 use Prim.Native.Nat.{_-_}

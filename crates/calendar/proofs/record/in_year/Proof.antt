@@ -1,4 +1,4 @@
--- `calendar::record::in_year` meets its contract.
+-- `calendar::record::in_year` meets its promise.
 -- Assumes nothing.
 use Prim.Native.Nat.{_+_, _-_}
 use borrow.Author.Needs.{needs}

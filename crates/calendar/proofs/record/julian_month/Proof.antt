@@ -1,4 +1,4 @@
--- `calendar::record::julian_month` meets its contract.
+-- `calendar::record::julian_month` meets its promise.
 -- Assumes nothing.
 use Prim.Native.Nat.{_-_}
 use native.Mathlib.Omega.{arith}

@@ -1,4 +1,4 @@
--- `calendar::record::on_day` meets its contract: in the Julian run, and in the Gregorian one.
+-- `calendar::record::on_day` meets its promise: in the Julian run, and in the Gregorian one.
 -- Assumes nothing.
 use mathlib.Core.Path.{_≡_, sym, _∙_, ap}
 use Prim.Native.Nat.{ℕ, _-_}

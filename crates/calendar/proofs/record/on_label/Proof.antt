@@ -1,4 +1,4 @@
--- `calendar::record::on_label` meets its contract, row by row.
+-- `calendar::record::on_label` meets its promise, row by row.
 -- Assumes nothing.
 use mathlib.Core.Path.{_≡_, _∙_}
 use Prim.Native.Nat.{_-_}

@@ -1,4 +1,4 @@
--- `calendar::record::plain_record` meets its contract.
+-- `calendar::record::plain_record` meets its promise.
 -- Assumes nothing.
 use mathlib.Core.Path.{sym, _∙_, ap}
 use Prim.Native.Nat.{ℕ, _-_}

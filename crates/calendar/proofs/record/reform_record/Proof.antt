@@ -1,4 +1,4 @@
--- `calendar::record::reform_record` meets its contract.
+-- `calendar::record::reform_record` meets its promise.
 -- Assumes nothing.
 use mathlib.Core.Path.{_≡_, sym, _∙_, ap}
 use Prim.Native.Nat.{ℕ, _+_, _-_}

@@ -1,4 +1,4 @@
--- `calendar::record::spot_at` meets its contract.
+-- `calendar::record::spot_at` meets its promise.
 -- Assumes nothing.
 use mathlib.Core.Path.{_≡_, refl, subst}
 use Prim.Native.Nat.{ℕ, _+_, _-_}

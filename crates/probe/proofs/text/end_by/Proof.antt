@@ -1,5 +1,5 @@
 -- `probe::text::end_by` is safe and ends: a walk of its MIR, by hand. A reader is made of the text and the place and passed by value. All that the proof
--- knows of `Reader::end` is that it meets its contract.
+-- knows of `Reader::end` is that it meets its promise.
 -- Assumes nothing.
 use mathlib.Core.Path.{refl}
 use Prim.Native.Nat.{ℕ, _<_, _^_}

@@ -1,4 +1,4 @@
--- `probe::walk::lent` meets its contract: a walk of its MIR, by hand. A local is lent by `&mut` to `step` for a lifetime that is made for the
+-- `probe::walk::lent` meets its promise: a walk of its MIR, by hand. A local is lent by `&mut` to `step` for a lifetime that is made for the
 -- call, and comes back at the walker that `step` promises. All that the proof knows of `step` is that it meets its promise.
 -- Assumes nothing.
 use mathlib.Core.Path.{refl, ap}

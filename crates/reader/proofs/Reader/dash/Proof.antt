@@ -1,4 +1,4 @@
--- `reader::Reader::dash` meets its contract: the walk of `Moving`, with `dash_at` and `after_dash` as its callees.
+-- `reader::Reader::dash` meets its promise: the walk of `Moving`, with `dash_at` and `after_dash` as its callees.
 -- Assumes nothing.
 use denote.Triple.Spec.{tripleOf}
 use denote.Triple.Table.{entered, cited}

@@ -1,4 +1,4 @@
--- `reader::Reader::number` meets its contract: the walk of `Moving`, with `number_at` and `after_number` as its callees.
+-- `reader::Reader::number` meets its promise: the walk of `Moving`, with `number_at` and `after_number` as its callees.
 -- Assumes nothing.
 use denote.Triple.Spec.{tripleOf}
 use denote.Triple.Table.{entered, cited}

@@ -1,4 +1,4 @@
--- `reader::Reader::signed` meets its contract: the walk of `Moving`, with `signed_at` and `after_signed` as its callees.
+-- `reader::Reader::signed` meets its promise: the walk of `Moving`, with `signed_at` and `after_signed` as its callees.
 -- Assumes nothing.
 use denote.Triple.Spec.{tripleOf}
 use denote.Triple.Table.{entered, cited}
