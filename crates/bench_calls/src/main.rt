@@ -74,9 +74,9 @@ fn put_padded(text: &mut [u8], d: Date) {
     let year = ((whole::raised(d.year) as u64 + 6352) % 10_000) as u32;
     put_two(text, 0, year / 100);
     put_two(text, 2, year);
-    set_byte(text, 4, 45);
+    set_byte(text, 4, b'-');
     put_two(text, 5, d.month);
-    set_byte(text, 7, 45);
+    set_byte(text, 7, b'-');
     put_two(text, 8, d.day);
 }
 

@@ -6,6 +6,7 @@ ghost use Rattle.digits.specs.Reading.{isDigit, digitOf, pairOf, runOf, 
 
 // ---- a run of digits
 
+// `0` is 48, and `9` is 57.
 fn is_digit(b: u64) -> bool
     ensures { λ r. ⌜ r ≡ isDigit b ⌝ }
 {

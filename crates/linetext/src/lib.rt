@@ -140,7 +140,7 @@ fn put_signed(out: &mut [u8], at: usize, negative: bool, n: u64) -> usize
     ensures { λ r. ⌜ Text (Signs negative n) 21 (now (out .entry)) at (now (out .exit)) r ⌝ }
 {
     if negative {
-        let next = put_byte(out, at, 45);
+        let next = put_byte(out, at, b'-');
         return put_natural(out, next, n);
     }
     put_natural(out, at, n)
@@ -172,18 +172,18 @@ fn put_place(out: &mut [u8], at: usize, ordinal: u64, month: u64, day: u64, week
     requires { ⌜ at + 88 ≤ length (now out) ⌝ }
     ensures { λ r. ⌜ CellsOf (pos ordinal ∷ pos month ∷ pos day ∷ pos weekday ∷ []) 88 (now (out .entry)) at (now (out .exit)) r ⌝ }
 {
-    let second = put_count(out, at, ordinal, 9);
-    let third = put_count(out, second, month, 9);
-    let fourth = put_count(out, third, day, 9);
-    put_count(out, fourth, weekday, 10)
+    let second = put_count(out, at, ordinal, b'\t');
+    let third = put_count(out, second, month, b'\t');
+    let fourth = put_count(out, third, day, b'\t');
+    put_count(out, fourth, weekday, b'\n')
 }
 
 fn put_row(out: &mut [u8], at: usize, row: Row) -> usize
     requires { ⌜ at + 132 ≤ length (now out) ⌝ }
     ensures { λ r. ⌜ LineOf (OfRow row) (now (out .entry)) at (now (out .exit)) r ⌝ }
 {
-    let second = put_whole(out, at, row.jdn, 9);
-    let third = put_whole(out, second, row.year, 9);
+    let second = put_whole(out, at, row.jdn, b'\t');
+    let third = put_whole(out, second, row.year, b'\t');
     put_place(out, third, row.ordinal, row.month, row.day, row.weekday)
 }
 
@@ -191,11 +191,11 @@ fn put_refusal(out: &mut [u8], at: usize, why: Refusal) -> usize
     requires { ⌜ at + 132 ≤ length (now out) ⌝ }
     ensures { λ r. ⌜ LineOf (OfRefusal why) (now (out .entry)) at (now (out .exit)) r ⌝ }
 {
-    let mark = put_byte(out, at, 33);
-    let number = put_byte(out, mark, 9);
-    let place = put_count(out, number, why.number as u64, 9);
-    let value = put_count(out, place, why.place as u64, 9);
-    put_whole(out, value, why.value, 10)
+    let mark = put_byte(out, at, b'!');
+    let number = put_byte(out, mark, b'\t');
+    let place = put_count(out, number, why.number as u64, b'\t');
+    let value = put_count(out, place, why.place as u64, b'\t');
+    put_whole(out, value, why.value, b'\n')
 }
 
 fn put_either(out: &mut [u8], at: usize, line: Line) -> usize

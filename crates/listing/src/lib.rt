@@ -48,7 +48,7 @@ fn turn(
     requires { ⌜ (at < length (now block)) × (used + 132 ≤ length (now out)) ⌝ }
     ensures { λ p. ⌜ Turn (now (block .entry)) (stand at (now (line .entry)) held (now (out .entry)) used) (stand (p .at) (now (line .exit)) (p .held) (now (out .exit)) (p .used)) ⌝ }
 {
-    let end = bytesearch::up_to(block, at, 10);
+    let end = bytesearch::up_to(block, at, b'\n');
     let n = heldline::fill(line, held, &block[at..end]);
     if end < block.len() {
         let next = put_held(line, n, out, used);

@@ -113,10 +113,10 @@ pub fn signed_at(s: &[u8], at: usize) -> SignedNumber
 {
     if at < s.len() {
         let b = s[at];
-        if b == 45 {
+        if b == b'-' {
             return signed_run(s, true, at, at + 1, refusal(10, at, 0));
         }
-        if b == 43 {
+        if b == b'+' {
             return signed_run(s, false, at, at + 1, refusal(10, at, 0));
         }
         return signed_run(s, false, at, at, byte_refusal(9, at, b));
@@ -129,7 +129,7 @@ pub fn dash_at(s: &[u8], at: usize) -> Dash
 {
     if at < s.len() {
         let b = s[at];
-        if b == 45 {
+        if b == b'-' {
             return Dash::Next(at + 1);
         }
         return Dash::Refused(byte_refusal(12, at, b));

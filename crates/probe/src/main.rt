@@ -302,7 +302,7 @@ fn query_of(line: &[u8]) -> &[u8] {
 
 // The answer to the n bytes of a line, where the last of them ends it.
 fn answer_line(line: &[u8], n: usize, last: u8, out: &mut [u8], used: usize) -> usize {
-    if last == 10 {
+    if last == b'\n' {
         let at = room(out, used);
         let end = answer(query_of(query::front(line, n)), out, at);
         return put::line_end(out, end);
@@ -320,7 +320,7 @@ fn kept(line: &mut [u8], n: usize, b: u8) -> usize {
 }
 
 fn held_after(n: usize, last: u8) -> usize {
-    if last == 10 {
+    if last == b'\n' {
         return 0;
     }
     n

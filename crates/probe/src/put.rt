@@ -18,7 +18,7 @@ pub fn line_end(out: &mut [u8], at: usize) -> usize {
     }
     let last = at - 1;
     if last < out.len() {
-        out[last] = 10;
+        out[last] = b'\n';
     }
     at
 }
@@ -30,12 +30,12 @@ pub fn word(out: &mut [u8], at: usize, w: &[u8]) -> usize {
         end = byte(out, end, w[i]);
         i += 1;
     }
-    byte(out, end, 9)
+    byte(out, end, b'\t')
 }
 
 fn number(out: &mut [u8], at: usize, x: i64) -> usize {
     match writer::put_whole(out, at, x) {
-        Written::Done(end) => byte(out, end, 9),
+        Written::Done(end) => byte(out, end, b'\t'),
         Written::Refused(_) => at,
     }
 }
@@ -50,7 +50,7 @@ fn field(out: &mut [u8], at: usize, kind: u8, x: i64) -> usize {
     }
     let end = byte(out, at, letter(x));
     if kind == crate::reply::LETTER {
-        return byte(out, end, 9);
+        return byte(out, end, b'\t');
     }
     end
 }

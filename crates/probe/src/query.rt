@@ -34,7 +34,7 @@ pub fn byte_at(line: &[u8], at: usize) -> u8 {
 }
 
 fn is_tab(b: u8) -> bool {
-    b == 9
+    b == b'\t'
 }
 
 // The place after the next tab, or the end of the line.

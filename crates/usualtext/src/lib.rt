@@ -37,11 +37,11 @@ fn usual_year(text: &[u8]) -> Part
     if text.len() < 5 {
         return Part::Other;
     }
-    if text[4] == 45 {
+    if text[4] == b'-' {
         let hundreds = digits::pair_at(text, 0);
         return year_at(text, hundreds, 2);
     }
-    if text[3] == 45 {
+    if text[3] == b'-' {
         let hundreds = digits::digit_at(text, 0);
         if hundreds < 10 {
             return year_at(text, hundreds, 1);
@@ -58,14 +58,14 @@ fn usual_month(text: &[u8], at: usize) -> Part
     if text.len() - at < 3 {
         return Part::Other;
     }
-    if text[at + 2] == 45 {
+    if text[at + 2] == b'-' {
         let month = digits::pair_at(text, at);
         if datetext::is_month(month) {
             return Part::At(month, at + 3);
         }
         return Part::Other;
     }
-    if text[at + 1] == 45 {
+    if text[at + 1] == b'-' {
         let month = digits::digit_at(text, at);
         if 9 < month {
             return Part::Other;

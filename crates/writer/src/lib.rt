@@ -35,7 +35,7 @@ fn put_dashed(buf: &mut [u8], at: usize, n: u64, k: usize) -> usize
     requires { ⌜ at + 1 + k ≤ length (now buf) ⌝ }
     ensures { λ r. ⌜ So (now (buf .entry)) at (wholeText true k n) (now (buf .exit)) r ⌝ }
 {
-    buf[at] = 45;
+    buf[at] = b'-';
     put_digits(buf, at + 1, n, k)
 }
 
