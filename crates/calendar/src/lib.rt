@@ -405,6 +405,6 @@ fn has_julian_style(calendar: Calendar, jdn: i32) -> bool
 {
     match switch_of(calendar) {
         Switch::MadeUp => false,
-        Switch::At(switch) => (raised(jdn) as u64 + 782_219_326_294) < switch,
+        Switch::At(switch) => (raised(jdn) as u64 + inner::LEAST_DAY) < switch,
     }
 }

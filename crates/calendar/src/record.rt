@@ -26,7 +26,7 @@ pub fn on_day(calendar: Calendar, switch: u64, jdn: i32) -> Date
     ensures { λ d. ⌜ IsRecord calendar jdn d ⌝ }
 {
     let x = whole::raised(jdn);
-    let today = x as u64 + 782_219_326_294;
+    let today = x as u64 + inner::LEAST_DAY;
     if today < switch {
         let old = inner::julian_place(x);
         let s = spot_at(

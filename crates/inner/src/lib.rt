@@ -13,6 +13,9 @@ ghost use Rattle.inner.specs.Natural.{heldDay, heldYear, VirtualPoint, L
 use whole::lowered;
 use whole::raised;
 
+// Day -2147483648, as it is held: every day of every year of 32 bits is a natural then. A raised day is held as so much more.
+pub const LEAST_DAY: u64 = 782_219_326_294;
+
 // ---- Leap years
 
 pub fn is_julian_leap_year(year: i32) -> bool
@@ -88,7 +91,7 @@ pub struct Place {
 pub fn julian_place(day: u32) -> Place
     ensures { λ r. ⌜ InYear J.leapAt J.start (heldDay day) (heldYear (r .year)) (r .ordinal) ⌝ }
 {
-    let place = decompose_julian(day as u64 + 782_219_326_294);
+    let place = decompose_julian(day as u64 + LEAST_DAY);
     Place {
         year: (place.year - 352) as u32,
         ordinal: place.ordinal as u32,
@@ -197,13 +200,13 @@ pub fn gregorian_start(year: u32) -> u64
 pub fn day_number(day: u64) -> DayNumber
     ensures { λ r. ⌜ Lowers day r ⌝ }
 {
-    if day < 782_219_326_294 {
+    if day < LEAST_DAY {
         return DayNumber::Outside32;
     }
     if 786_514_293_590 <= day {
         return DayNumber::Outside32;
     }
-    DayNumber::Day(lowered((day - 782_219_326_294) as u32))
+    DayNumber::Day(lowered((day - LEAST_DAY) as u32))
 }
 
 // ---- A day with its label

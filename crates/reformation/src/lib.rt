@@ -16,7 +16,7 @@ pub enum Judgement {
 pub fn judge(r: i32) -> Judgement
     ensures { λ j. ⌜ Judges r j ⌝ }
 {
-    let day = whole::raised(r) as u64 + 782_219_326_294;
+    let day = whole::raised(r) as u64 + inner::LEAST_DAY;
     if day < 782_219_326_295 {
         return Judgement::Refused(1);
     }
