@@ -16,6 +16,12 @@ use whole::raised;
 // Day -2147483648, as it is held: every day of every year of 32 bits is a natural then. A raised day is held as so much more.
 pub const LEAST_DAY: u64 = 782_219_326_294;
 
+// Year -2147483648, as it is held: a held year is a multiple of 400 exactly when the year is one.
+const LEAST_YEAR: u64 = 352;
+
+// The held day on which held year 0 begins in the Gregorian reckoning, and with it the first cycle of 400 years. In the Julian one it is day 0.
+const FIRST_CYCLE: u64 = 16_106_132;
+
 // ---- Leap years
 
 pub fn is_julian_leap_year(year: i32) -> bool
@@ -30,19 +36,18 @@ pub fn is_gregorian_leap_year(year: i32) -> bool
     is_gregorian_leap(raised(year))
 }
 
-// The same of a raised year. 352 more make it a multiple of 400 exactly when the year is one. Of a multiple of 4, 100 divides it exactly
-// if 25 does, and then 400 does exactly if 16 does.
+// The same of a raised year. Of a multiple of 4, 100 divides it exactly if 25 does, and then 400 does exactly if 16 does.
 pub fn is_julian_leap(year: u32) -> bool
     ensures { λ r. ⌜ r ≡ J.leapAt (heldYear year) ⌝ }
 {
-    let y = year as u64 + 352;
+    let y = year as u64 + LEAST_YEAR;
     y % 4 == 0
 }
 
 pub fn is_gregorian_leap(year: u32) -> bool
     ensures { λ r. ⌜ r ≡ G.leapAt (heldYear year) ⌝ }
 {
-    let y = year as u64 + 352;
+    let y = year as u64 + LEAST_YEAR;
     if y % 25 != 0 {
         return y % 4 == 0;
     }
@@ -93,7 +98,7 @@ pub fn julian_place(day: u32) -> Place
 {
     let place = decompose_julian(day as u64 + LEAST_DAY);
     Place {
-        year: (place.year - 352) as u32,
+        year: (place.year - LEAST_YEAR) as u32,
         ordinal: place.ordinal as u32,
     }
 }
@@ -103,11 +108,12 @@ pub fn julian_place(day: u32) -> Place
 pub fn gregorian_place(day: u32) -> Place
     ensures { λ r. ⌜ InYear G.leapAt G.start (heldDay day) (heldYear (r .year)) (r .ordinal) ⌝ }
 {
+    // LEAST_DAY less FIRST_CYCLE.
     let days = day as u64 + 782_203_220_162;
     let cycles = days / 146_097;
     let place = decompose_julian(virtual_point(days % 146_097) - 1);
     Place {
-        year: (400 * cycles + place.year - 352) as u32,
+        year: (400 * cycles + place.year - LEAST_YEAR) as u32,
         ordinal: place.ordinal as u32,
     }
 }
@@ -184,16 +190,16 @@ fn ordinal_number(leap: bool, start: u64, ordinal: u32) -> DayNumber
 pub fn julian_start(year: u32) -> u64
     ensures { λ r. ⌜ r ≡ J.start (heldYear year) ⌝ }
 {
-    let y = year as u64 + 352;
+    let y = year as u64 + LEAST_YEAR;
     365 * y + (y + 3) / 4
 }
 
 pub fn gregorian_start(year: u32) -> u64
     ensures { λ r. ⌜ r ≡ G.start (heldYear year) ⌝ }
 {
-    let y = year as u64 + 352;
+    let y = year as u64 + LEAST_YEAR;
     let centuries = (y + 99) / 100;
-    365 * y + (y + 3) / 4 + (centuries + 3) / 4 + 16_106_132 - centuries
+    365 * y + (y + 3) / 4 + (centuries + 3) / 4 + FIRST_CYCLE - centuries
 }
 
 // A day that is held as so much more than its number, in 32 bits.
