@@ -14,16 +14,21 @@ pub enum DaySecond {
     Outside32,
 }
 
-// The lowest day starts 185753453990400 seconds before 1970, and the days of 32 bits have 371085174374400 seconds.
+// The lowest day begins 185753453990400 seconds before 1970; raised:
+const FIRST_SECOND: u64 = 9_223_186_283_400_785_408;
+
+// The days of 32 bits have one more.
+const LAST_ELAPSED: u64 = 371_085_174_374_399;
+
 pub fn day_second(t: i64) -> DaySecond
     ensures { λ a. ⌜ DaySecondOf t a ⌝ }
 {
     let raised_time = raised64(t);
-    if raised_time < 9_223_186_283_400_785_408 {
+    if raised_time < FIRST_SECOND {
         return DaySecond::Outside32;
     }
-    let elapsed = raised_time - 9_223_186_283_400_785_408;
-    if 371_085_174_374_399 < elapsed {
+    let elapsed = raised_time - FIRST_SECOND;
+    if LAST_ELAPSED < elapsed {
         return DaySecond::Outside32;
     }
     let day = (elapsed / 86_400) as u32;
@@ -36,5 +41,5 @@ pub fn jdn2unix(jdn: i32) -> i64
     ensures { λ t. ⌜ UnixTime t jdn 0 ⌝ }
 {
     let elapsed = raised(jdn) as u64 * 86_400;
-    lowered64(elapsed + 9_223_186_283_400_785_408)
+    lowered64(elapsed + FIRST_SECOND)
 }
