@@ -48,6 +48,8 @@ use Rattle.changeover.specs.declared.Found.the-variants as Found′
 use Rattle.changeover.specs.Spots.{YearSpan, Finds, finds-old, finds-new, finds-gap, finds-none}
 use Rattle.changeover.specs.Laws.{starts-close, ordinal-sum}
 use Rattle.refusals.specs.declared.Refusal.{Refusal}
+use Rattle.ways.specs.declared.Neighbour.the-variants as Neighbour′
+use Rattle.ways.specs.Ways.{IsNeighbour, there, nowhere}
 use Rattle.calendar.specs.Calendars.{meant, labels, Accepted, IsRecord, Genuine, sameStyle, styleIs}
 use Rattle.calendar.specs.Rows.{refuses, passes}
 use Rattle.calendar.specs.Promise.{refused, refusedReformation, Reforms, judged, RecordOf, record-of, Given, ByLabel, on-label, ByOrdinal, OffYear, on-ordinal, AtJdn, IsGenuine, Next, ConvertsTo}
@@ -411,6 +413,12 @@ genuine-refused e (passes a (record-of i)) g = let z : _≡_ {A = ℕ} 0 1 = cc 
 pub next-row : {d : Date} {n : ℤ} {a : Dated} → Genuine d → Is32Bit n → AtJdn (d .calendar) n a → Next d n a
 next-row g f (refuses x) = absurd (x (g .accepted))
 next-row g f (passes x r) = passes g (passes f r)
+
+pub nowhere-outside : {n : ℤ} → IsNeighbour n Neighbour′.Nowhere → ¬ Is32Bit n
+nowhere-outside (nowhere x) = x
+
+pub day-there : {n k : ℤ} → IsNeighbour n (Neighbour′.Day k) → Is32Bit n × (k ≡ n)
+day-there (there f) = (f, refl)
 
 pub converts-row : {d : Date} {c : Calendar} {a : Dated} → Genuine d → AtJdn c (d .jdn) a → ConvertsTo d c a
 converts-row g (refuses x) = refuses (λ p. x (p .1))

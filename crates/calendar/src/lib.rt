@@ -3,6 +3,7 @@
 
 ghost use mathlib.Core.Path.{_≡_};
 ghost use lib.IntN.{pos, sucℤ, predℤ};
+ghost use Rattle.ways.specs.Ways.{toward};
 ghost use Rattle.days.specs.DayByDay.{weekday, JulianStyle, GregorianStyle};
 ghost use mathlib.Core.Bool.{not};
 ghost use Prim.Native.Nat.{_-_, _≤_};
@@ -13,6 +14,8 @@ use fields::Fields;
 use reformation::Judgement;
 pub use refusals::Refusal;
 pub use refusals::refusal_of;
+use ways::Kind;
+use ways::Neighbour;
 pub use weekday::Weekday;
 use whole::lowered;
 use whole::raised;
@@ -341,30 +344,28 @@ impl Date {
     pub fn succ(self) -> Dated
         ensures { λ a. ⌜ Next self (sucℤ (self .jdn)) a ⌝ }
     {
-        if self.is_genuine() {
-            let day = raised(self.jdn);
-            if day == 4_294_967_295 {
-                return refused_count(15, 0);
-            }
-            let calendar = self.calendar;
-            return calendar.at_jdn(lowered(day + 1));
-        }
-        made_up()
+        beside(self, Kind::Later)
     }
 
     pub fn pred(self) -> Dated
         ensures { λ a. ⌜ Next self (predℤ (self .jdn)) a ⌝ }
     {
-        if self.is_genuine() {
-            let day = raised(self.jdn);
-            if day == 0 {
-                return refused_count(15, 0);
-            }
-            let calendar = self.calendar;
-            return calendar.at_jdn(lowered(day - 1));
-        }
-        made_up()
+        beside(self, Kind::Earlier)
     }
+}
+
+// The date of the day that lies ahead of a date on a way.
+fn beside(date: Date, way: Kind) -> Dated
+    ensures { λ a. ⌜ Next date (toward way (date .jdn)) a ⌝ }
+{
+    if date.is_genuine() {
+        let calendar = date.calendar;
+        return match ways::day_ahead(way, date.jdn) {
+            Neighbour::Nowhere => refused_count(15, 0),
+            Neighbour::Day(jdn) => calendar.at_jdn(jdn),
+        };
+    }
+    made_up()
 }
 
 // A number of a record, which has to be genuine, counted from 0 in place of 1.

@@ -3,15 +3,22 @@
 use mathlib.Core.Path.{_≡_, refl}
 use mathlib.Core.Bool.{Bool, true, false}
 use lib.IntN.{ℤ}
+use Rattle.ways.specs.declared.Neighbour.{Neighbour}
 use Rattle.ways.specs.declared.Kind.{Kind}
 use Rattle.ways.specs.declared.Step.{Step}
-use Rattle.ways.specs.Ways.{toward, gives, EndedAt, NextStep, made-up, ended, goes}
+use Rattle.ways.specs.Ways.{IsNeighbour, there, nowhere, toward, gives, EndedAt, NextStep, made-up, ended, goes}
 
 pub ended-one : (n : ℤ) (a b : Bool) → EndedAt n a → EndedAt n b → a ≡ b
 ended-one n true true p q = refl
 ended-one n true false p q = absurd (p q)
 ended-one n false true p q = absurd (q p)
 ended-one n false false p q = refl
+
+pub neighbour-one : (n : ℤ) (a b : Neighbour) → IsNeighbour n a → IsNeighbour n b → a ≡ b
+neighbour-one n a b (there f) (there g) = refl
+neighbour-one n a b (there f) (nowhere x) = absurd (x f)
+neighbour-one n a b (nowhere x) (there f) = absurd (x f)
+neighbour-one n a b (nowhere x) (nowhere y) = refl
 
 pub next-step-one : (k : Kind) (n : ℤ) (e : Bool) (a b : Step) → NextStep k n e a → NextStep k n e b → a ≡ b
 next-step-one k n e a b (made-up x) (made-up y) = refl

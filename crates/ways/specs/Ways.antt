@@ -3,6 +3,8 @@
 use mathlib.Core.Bool.{Bool, true, false}
 use lib.IntN.{ℤ, sucℤ, predℤ}
 use Rattle.days.specs.DayByDay.{Is32Bit}
+use Rattle.ways.specs.declared.Neighbour.{Neighbour}
+use Rattle.ways.specs.declared.Neighbour.the-variants as Neighbour′
 use Rattle.ways.specs.declared.Kind.{Kind}
 use Rattle.ways.specs.declared.Kind.the-variants.{Later, Earlier, AndLater, AndEarlier}
 use Rattle.ways.specs.declared.Step.{Step}
@@ -21,6 +23,11 @@ toward Later n = sucℤ n
 toward Earlier n = predℤ n
 toward AndLater n = sucℤ n
 toward AndEarlier n = predℤ n
+
+-- day n, where 32 bits hold it
+pub data IsNeighbour (n : ℤ) : Neighbour → Type 0 where
+  there : Is32Bit n → IsNeighbour n (Neighbour′.Day n)
+  nowhere : ¬ Is32Bit n → IsNeighbour n Neighbour′.Nowhere
 
 -- whether the day that a walker holds is the one that it gives next; else it is the one that it gave last, or was made from
 abbrev pub givesHeld : Kind → Bool

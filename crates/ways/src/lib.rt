@@ -1,8 +1,9 @@
-// The four ways that walkers go, by day numbers: which day a step gives, which day the walker holds after it, and when it is ended.
+// The four ways that walkers go, by day numbers: which day lies ahead, which day a step gives, which day the walker holds after it, and when
+// it is ended.
 
 ghost use mathlib.Core.Path.{_≡_};
 ghost use Rattle.days.specs.DayByDay.{Is32Bit};
-ghost use Rattle.ways.specs.Ways.{goesLater, toward, givesHeld, gives, EndedAt, NextStep};
+ghost use Rattle.ways.specs.Ways.{goesLater, toward, IsNeighbour, givesHeld, gives, EndedAt, NextStep};
 use whole::lowered;
 use whole::raised;
 
@@ -67,6 +68,22 @@ fn ahead(kind: Kind, jdn: i32) -> i32
         return lowered(raised(jdn) + 1);
     }
     lowered(raised(jdn) - 1)
+}
+
+// The day next to a day, or that 32 bits have none there.
+pub enum Neighbour {
+    Day(i32),
+    Nowhere,
+}
+
+pub fn day_ahead(kind: Kind, jdn: i32) -> Neighbour
+    ensures { λ d. ⌜ IsNeighbour (toward kind jdn) d ⌝ }
+{
+    if is_last(kind, jdn) {
+        return Neighbour::Nowhere;
+    }
+    let next = ahead(kind, jdn);
+    Neighbour::Day(next)
 }
 
 // ---- Making a walker
