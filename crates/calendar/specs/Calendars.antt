@@ -3,7 +3,7 @@ use mathlib.Core.Path.{_≡_}
 use mathlib.Core.Bool.{Bool, true, false}
 use lib.IntN.{ℤ}
 use Rattle.days.specs.DayByDay as D
-use Rattle.days.specs.DayByDay.{Label, label, Ordinal, DayOrdinal, Style, JulianStyle, GregorianStyle}
+use Rattle.days.specs.DayByDay.{Label, label, Timeline, labelsIn, Ordinal, DayOrdinal, Style, JulianStyle, GregorianStyle}
 use Rattle.calendar.specs.declared.Calendar.{Calendar}
 use Rattle.calendar.specs.declared.Calendar.the-variants.{Julian, Gregorian, Reforming}
 use Rattle.calendar.specs.declared.Date.{Date}
@@ -13,6 +13,9 @@ abbrev pub meant : Calendar → D.Calendar
 meant Julian = D.Julian
 meant Gregorian = D.Gregorian
 meant (Reforming r) = D.Reforming r
+
+abbrev pub timeline : Calendar → Timeline
+timeline c = D.timeline (meant c)
 
 -- the label of each day; which calendars are accepted, any other being made up; which labels are skipped
 abbrev pub labels : Calendar → ℤ → Label
@@ -24,13 +27,17 @@ Accepted c = D.Accepted (meant c)
 abbrev pub Skipped : Calendar → Label → Type 0
 Skipped c l = D.Skipped (meant c) l
 
--- d is the record of day n: calendar, year, ordinal, month, day, day ordinal, day number
-pub record IsRecord (c : Calendar) (n : ℤ) (d : Date) : Type 0 where
+-- d is the record of day n in the timeline t, which its records call c: calendar, year, ordinal, month, day, day ordinal, day number
+pub record IsRecordIn (t : Timeline) (c : Calendar) (n : ℤ) (d : Date) : Type 0 where
   pub calendar-is : d .calendar ≡ c
-  pub label-is : labels c n ≡ label (d .year) (d .month) (d .day)
-  pub ordinal-is : Ordinal (labels c) n (d .ordinal)
-  pub day-ordinal-is : DayOrdinal (labels c) n (d .«day_ordinal»)
+  pub label-is : labelsIn t n ≡ label (d .year) (d .month) (d .day)
+  pub ordinal-is : Ordinal (labelsIn t) n (d .ordinal)
+  pub day-ordinal-is : DayOrdinal (labelsIn t) n (d .«day_ordinal»)
   pub day-is : d .jdn ≡ n
+
+-- in the timeline of the calendar
+abbrev pub IsRecord : Calendar → ℤ → Date → Type 0
+IsRecord c = IsRecordIn (timeline c) c
 
 -- a record is genuine if it is that of its day number in its accepted calendar; any other is made up
 pub record Genuine (d : Date) : Type 0 where

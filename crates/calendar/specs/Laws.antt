@@ -394,7 +394,7 @@ genuine-by {d} {t} (record-of i) a g = record { accepted = a; is-record = subst 
         w
 
 not-genuine : {d t : Date} → RecordOf (d .calendar) (d .jdn) (Dated′.Date t) → ¬ (fieldsOf d ≡ fieldsOf t) → ¬ Genuine d
-not-genuine {d} (record-of i) n g = n (ap fieldsOf (record-one (d .calendar) (g .is-record) i))
+not-genuine {d} (record-of i) n g = n (ap fieldsOf (record-one (g .is-record) i))
 
 -- what is promised for a day number is promised for the same number written otherwise
 pub at-same-jdn : {c : Calendar} {n m : ℤ} {a : Dated} → n ≡ m → AtJdn c n a → AtJdn c m a

@@ -4,7 +4,7 @@ use mathlib.Core.Path.{_≡_, refl, sym, _∙_, ap, subst}
 use mathlib.Core.Bool.{Bool, true, false}
 use Prim.Native.Nat.{ℕ}
 use lib.IntN.{ℤ}
-use Rattle.days.specs.DayByDay.{Label, label}
+use Rattle.days.specs.DayByDay.{Label, label, Timeline, labelsIn, Rises}
 use Rattle.days.specs.Rising.{once, place-one, nth-one}
 use Rattle.days.specs.Calendars.{accepted-rises}
 use Rattle.days.specs.Table.{judged-one}
@@ -15,18 +15,18 @@ use Rattle.calendar.specs.declared.Date.{Date}
 use Rattle.calendar.specs.declared.Switch.the-variants as Switch′
 use Rattle.calendar.specs.declared.Dated.the-variants as Dated′
 use Rattle.calendar.specs.declared.ReformDate.the-variants as ReformDate′
-use Rattle.calendar.specs.Calendars.{Accepted, IsRecord}
+use Rattle.calendar.specs.Calendars.{timeline, IsRecordIn, IsRecord}
 use Rattle.calendar.specs.Rows.{One, unless-one, if-one, answers-one}
-use Rattle.calendar.specs.Promise.{outcomeIs, Reforms, judged, RecordOf, record-of, AtJdn, Given, OnLabel, on-label, AtYmd, OnOrdinal, on-ordinal, AtOrdinal, TellsCalendar, ReformationOf, reformDay, ReformRecord, never-julian, never-gregorian, reform-record, LastJulian, FirstGregorian, IsGenuine, TellsDate, CountsDate, Next, ConvertsTo}
+use Rattle.calendar.specs.Promise.{outcomeIs, Reforms, judged, RecordOfIn, record-of, AtJdn, GivenIn, Given, OnLabelIn, on-label, YmdIn, AtYmd, OnOrdinalIn, on-ordinal, OrdinalIn, AtOrdinal, TellsCalendar, ReformationOf, reformDay, ReformRecord, never-julian, never-gregorian, reform-record, LastJulian, FirstGregorian, IsGenuine, TellsDate, CountsDate, Next, ConvertsTo}
 use Rattle.calendar.specs.Natural.{SwitchIs, switches-at, no-calendar}
 
 -- ---- A day has one record
 unfoldable pub whole : Calendar → ℤ → ℕ → ℕ → ℕ → ℕ → ℤ → Date
 whole c y o m d b j = record { calendar = c; year = y; ordinal = o; month = m; day = d; «day_ordinal» = b; jdn = j }
 
-pub record-one : (c : Calendar) {n : ℤ} {r s : Date} → IsRecord c n r → IsRecord c n s → r ≡ s
+pub record-one : {t : Timeline} {c : Calendar} {n : ℤ} {r s : Date} → IsRecordIn t c n r → IsRecordIn t c n s → r ≡ s
 unfolding whole
-record-one c {n} {r} {s} p q =
+record-one {r = r} {s} p q =
     let l : label (r .year) (r .month) (r .day) ≡ label (s .year) (s .month) (s .day) = sym (p .label-is) ∙ q .label-is in
     let y : r .year ≡ s .year = ap (λ (l : Label). l .year) l in
     let m : r .month ≡ s .month = ap (λ (l : Label). l .month) l in
@@ -39,8 +39,8 @@ record-one c {n} {r} {s} p q =
     ≡ whole (s .calendar) (s .year) (s .ordinal) (s .month) (s .day) (s .«day_ordinal») (s .jdn) = cc in
     e
 
-record-of-one : (c : Calendar) (n : ℤ) → One (RecordOf c n)
-record-of-one c n a b (record-of p) (record-of q) = ap Dated′.Date (record-one c p q)
+record-of-one : (t : Timeline) (c : Calendar) (n : ℤ) → One (RecordOfIn t c n)
+record-of-one t c n a b (record-of p) (record-of q) = ap Dated′.Date (record-one p q)
 
 -- ---- Reformations
 pub reforms-one : (r : ℤ) → One (Reforms r)
@@ -48,26 +48,36 @@ reforms-one r a b (judged p) (judged q) = ap (outcomeIs r) (judged-one p q)
 
 -- ---- Dates
 pub at-jdn-one : (c : Calendar) (n : ℤ) → One (AtJdn c n)
-at-jdn-one c n = unless-one (λ a. record-of-one c n)
+at-jdn-one c n = unless-one (λ a. record-of-one (timeline c) c n)
+
+module _ (t : Timeline) (c : Calendar) where
+  given-in-one : (y n : ℤ) → One (GivenIn t c y n)
+  given-in-one y n = unless-one (λ f. record-of-one t c n)
+
+  on-label-one : Rises (labelsIn t) → (l : Label) → One (OnLabelIn t c l)
+  on-label-one up l a b (on-label {n} e p) (on-label {n = m} f q) =
+      let w : m ≡ n = once up (f ∙ sym e) in
+      given-in-one (l .year) n a b p (subst (λ (k : ℤ). GivenIn t c (l .year) k b) w q)
+
+  pub ymd-in-one : Rises (labelsIn t) → (y : ℤ) (m d : ℕ) → One (YmdIn t c y m d)
+  ymd-in-one up y m d = unless-one (λ v. if-one (λ n. if-one (λ s. on-label-one up (label y m d))))
+
+  on-ordinal-one : (y : ℤ) (o : ℕ) → One (OnOrdinalIn t c y o)
+  on-ordinal-one y o a b (on-ordinal {n} u e p) (on-ordinal {n = m} v f q) =
+      let w : m ≡ n = nth-one v f u e in
+      given-in-one y n a b p (subst (λ (k : ℤ). GivenIn t c y k b) w q)
+
+  pub ordinal-in-one : (y : ℤ) (o : ℕ) → One (OrdinalIn t c y o)
+  ordinal-in-one y o = if-one (λ n. on-ordinal-one y o)
 
 pub given-one : (c : Calendar) (y n : ℤ) → One (Given c y n)
-given-one c y n = unless-one (λ f. record-of-one c n)
-
-on-label-one : (c : Calendar) (l : Label) → Accepted c → One (OnLabel c l)
-on-label-one c l acc a b (on-label {n} e p) (on-label {n = m} f q) =
-    let w : m ≡ n = once (accepted-rises acc) (f ∙ sym e) in
-    given-one c (l .year) n a b p (subst (λ (k : ℤ). Given c (l .year) k b) w q)
+given-one c = given-in-one (timeline c) c
 
 pub at-ymd-one : (c : Calendar) (y : ℤ) (m d : ℕ) → One (AtYmd c y m d)
-at-ymd-one c y m d = unless-one (λ a. unless-one (λ v. if-one (λ n. if-one (λ s. on-label-one c (label y m d) a))))
-
-on-ordinal-one : (c : Calendar) (y : ℤ) (o : ℕ) → One (OnOrdinal c y o)
-on-ordinal-one c y o a b (on-ordinal {n} u e p) (on-ordinal {n = m} v f q) =
-    let w : m ≡ n = nth-one v f u e in
-    given-one c y n a b p (subst (λ (k : ℤ). Given c y k b) w q)
+at-ymd-one c y m d = unless-one (λ a. ymd-in-one (timeline c) c (accepted-rises a) y m d)
 
 pub at-ordinal-one : (c : Calendar) (y : ℤ) (o : ℕ) → One (AtOrdinal c y o)
-at-ordinal-one c y o = unless-one (λ a. if-one (λ n. on-ordinal-one c y o))
+at-ordinal-one c y o = unless-one (λ a. ordinal-in-one (timeline c) c y o)
 
 -- ---- Of a calendar
 pub switch-one : (c : Calendar) → One (SwitchIs c)
@@ -85,7 +95,7 @@ reformation-one c = unless-one (λ a. answers-one (reformDay c))
 reform-record-one : (before : ℤ) (c : Calendar) → One (ReformRecord before c)
 reform-record-one before Calendar′.Julian a b never-julian never-julian = refl
 reform-record-one before Calendar′.Gregorian a b never-gregorian never-gregorian = refl
-reform-record-one before (Calendar′.Reforming r) a b (reform-record p) (reform-record q) = ap ReformDate′.Date (record-one (Calendar′.Reforming r) p q)
+reform-record-one before (Calendar′.Reforming r) a b (reform-record p) (reform-record q) = ap ReformDate′.Date (record-one p q)
 
 pub last-julian-one : (c : Calendar) → One (LastJulian c)
 last-julian-one c = unless-one (λ a. reform-record-one _ c)
@@ -107,7 +117,7 @@ pub counts-date-one : (d : Date) (n : ℕ) → One (CountsDate d n)
 counts-date-one d n = unless-one (λ g. answers-one _)
 
 pub next-one : (d : Date) (n : ℤ) → One (Next d n)
-next-one d n = unless-one (λ g. unless-one (λ f. record-of-one (d .calendar) n))
+next-one d n = unless-one (λ g. unless-one (λ f. record-of-one (timeline (d .calendar)) (d .calendar) n))
 
 pub converts-one : (d : Date) (c : Calendar) → One (ConvertsTo d c)
-converts-one d c = unless-one (λ g. record-of-one c (d .jdn))
+converts-one d c = unless-one (λ g. record-of-one (timeline c) c (d .jdn))

@@ -14,6 +14,11 @@ Unless P = Row (¬ P) P
 abbrev pub If : {A : Type 0} → Type 0 → A → (A → Type 0) → A → Type 0
 If P = Row P (¬ P)
 
+-- where P holds, the rows below it say the result
+pub passed : {A : Type 0} {P : Type 0} {refused : A} {Below : A → Type 0} {a : A} → P → Unless P refused Below a → Below a
+passed p (refuses x) = absurd (x p)
+passed p (passes q b) = b
+
 -- the answer is a
 abbrev pub Answers : {A : Type 0} → A → A → Type 0
 Answers a b = b ≡ a

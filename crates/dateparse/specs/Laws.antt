@@ -8,6 +8,8 @@ use Rattle.calendar.specs.declared.Calendar.{Calendar}
 use Rattle.refusals.specs.declared.Refusal.{Refusal}
 use Rattle.calendar.specs.declared.Dated.{Dated}
 use Rattle.calendar.specs.declared.Dated.the-variants as Dated′
+use Rattle.calendar.specs.Calendars.{Accepted}
+use Rattle.calendar.specs.Rows.{passed}
 use Rattle.calendar.specs.Promise.{AtYmd, AtOrdinal}
 use Rattle.datetext.specs.Grammar.{ReadDate}
 use Rattle.datetext.specs.declared.Text.{Text}
@@ -17,8 +19,8 @@ module _ (c : Calendar) {s : List ℕ} where
   pub fault-row : {f : Refusal} → ReadDate s (Text.Refused f) → ByText c s (Dated′.Refused f)
   fault-row (ReadDate.faulty p) = by-fault p
 
-  pub ordinal-row : {y : ℤ} {o k : ℕ} {a b : Dated} → ReadDate s (Text.Ordinal y o k) → AtOrdinal c y o a → b ≡ placedAt k a → ByText c s b
-  ordinal-row (ReadDate.ordinal-text p) q e = subst (ByText c s) (sym e) (by-ordinal p q)
+  pub ordinal-row : {y : ℤ} {o k : ℕ} {a b : Dated} → ReadDate s (Text.Ordinal y o k) → Accepted c → AtOrdinal c y o a → b ≡ placedAt k a → ByText c s b
+  ordinal-row (ReadDate.ordinal-text p) x q e = subst (ByText c s) (sym e) (by-ordinal p (passed x q))
 
-  pub ymd-row : {y : ℤ} {m d k : ℕ} {a b : Dated} → ReadDate s (Text.Ymd y m d k) → AtYmd c y m d a → b ≡ placedAt k a → ByText c s b
-  ymd-row (ReadDate.ymd-text p) q e = subst (ByText c s) (sym e) (by-ymd p q)
+  pub ymd-row : {y : ℤ} {m d k : ℕ} {a b : Dated} → ReadDate s (Text.Ymd y m d k) → Accepted c → AtYmd c y m d a → b ≡ placedAt k a → ByText c s b
+  ymd-row (ReadDate.ymd-text p) x q e = subst (ByText c s) (sym e) (by-ymd p (passed x q))

@@ -5,14 +5,15 @@ use mathlib.Core.List.{List}
 use Prim.Native.Nat.{ℕ}
 use lib.Dec.{eqb}
 use lib.IntN.{ℤ}
+use Rattle.days.specs.DayByDay.{Timeline}
 use Rattle.calendar.specs.declared.Calendar.{Calendar}
 use Rattle.calendar.specs.declared.Date.{Date}
 use Rattle.refusals.specs.declared.Refusal.{Refusal}
 use Rattle.calendar.specs.declared.Dated.{Dated}
 use Rattle.calendar.specs.declared.Dated.the-variants as Dated′
-use Rattle.calendar.specs.Calendars.{Accepted, Genuine}
+use Rattle.calendar.specs.Calendars.{timeline, Accepted, Genuine}
 use Rattle.calendar.specs.Rows.{Unless}
-use Rattle.calendar.specs.Promise.{made-up, AtYmd, AtOrdinal}
+use Rattle.calendar.specs.Promise.{made-up, YmdIn, OrdinalIn}
 use Rattle.writer.specs.Writing.{WriteYmd}
 use Rattle.writer.specs.declared.Written.{Written}
 use Rattle.datetext.specs.Grammar.{OrdinalText, YmdText, Fault}
@@ -26,10 +27,13 @@ placedAt k (Dated′.Date d) = Dated′.Date d
 placedAt k (Dated′.Refused f) = Dated′.Refused (placeOf k f)
 
 -- the first fault of the text; or what the calendar answers to the date that it writes
-pub data ByText (c : Calendar) (s : List ℕ) : Dated → Type 0 where
-  by-fault : {f : Refusal} → Fault s f → ByText c s (Dated′.Refused f)
-  by-ordinal : {y : ℤ} {o k : ℕ} {a : Dated} → OrdinalText s y o k → AtOrdinal c y o a → ByText c s (placedAt k a)
-  by-ymd : {y : ℤ} {m d k : ℕ} {a : Dated} → YmdText s y m d k → AtYmd c y m d a → ByText c s (placedAt k a)
+pub data ByTextIn (t : Timeline) (c : Calendar) (s : List ℕ) : Dated → Type 0 where
+  by-fault : {f : Refusal} → Fault s f → ByTextIn t c s (Dated′.Refused f)
+  by-ordinal : {y : ℤ} {o k : ℕ} {a : Dated} → OrdinalText s y o k → OrdinalIn t c y o a → ByTextIn t c s (placedAt k a)
+  by-ymd : {y : ℤ} {m d k : ℕ} {a : Dated} → YmdText s y m d k → YmdIn t c y m d a → ByTextIn t c s (placedAt k a)
+
+abbrev pub ByText : Calendar → List ℕ → Dated → Type 0
+ByText c = ByTextIn (timeline c) c
 
 -- parse_date: 16; then the text; then the date
 abbrev pub ParseDate : Calendar → List ℕ → Dated → Type 0

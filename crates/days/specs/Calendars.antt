@@ -1,82 +1,63 @@
--- The calendars: the label of each next day is the next label, and the labels of every accepted calendar rise.
+-- The calendars: what their timelines say in the words of the scope, and that every accepted one rises.
 -- Assumes nothing.
-use mathlib.Core.Path.{_≡_, refl, sym, _∙_, ap, subst}
-use mathlib.Core.Logic.{_⊎_, ⊎-elim}
-use Prim.Native.Nat.{ℕ, zero, suc, _<_}
-use native.Mathlib.Omega.{arith}
-use lib.IntN.{ℤ, pos, sucℤ, _+ℤ_, _-ℤ_}
-use lib.Signed.{_<ℤ_}
-use Rattle.whole.specs.Tests as N
-use Rattle.whole.specs.Integers.{lt-suc, steps, back-lt}
-use Rattle.days.specs.DayByDay.{Label, LeapRule, Reckoning, monthLength, nextLabel, labelOf, julian, gregorian, julianLeap, gregorianLeap, _≺_, by-year, by-month, by-day, Calendar, Julian, Gregorian, Reforming, labels, Rises, Borne, Accepted, julian-accepted, gregorian-accepted, reforming-accepted, Skipped}
-use Rattle.days.specs.Steps.{Valid, next-day, next-month, next-year, after, label-suc, label-after, label-valid}
+use mathlib.Core.Path.{_≡_, refl, sym, _∙_, subst₂}
+use mathlib.Core.List.{[]}
+use mathlib.Core.Logic.{_⊎_, inl, inr, ⊎-elim}
+use lib.IntN.{ℤ, pos, _-ℤ_}
+use lib.Signed.{_<ℤ_, _≤ℤ_, ≤ℤ-refl}
+use Rattle.whole.specs.Integers.{lt-or-ge, back-lt}
+use Rattle.days.specs.DayByDay.{Label, labelOf, julian, gregorian, _≺_, splice, JulianStyle, GregorianStyle, julianEra, gregorianEra, Calendar, Julian, Gregorian, Reforming, timeline, labels, style, Rises, Borne, Accepted, julian-accepted, gregorian-accepted, reforming-accepted, SwitchDay, this, Skipped}
 use Rattle.days.specs.Order.{≺-trans}
-use Rattle.days.specs.Splice.{splice-either, splice-rises, between-nowhere}
+use Rattle.days.specs.Rising.{between-nowhere}
 use Rattle.days.specs.Spans.{Proper}
-use Rattle.days.specs.Julian as J
-use Rattle.days.specs.Gregorian as G
+use Rattle.days.specs.Reckonings.{julian-rises}
+use Rattle.days.specs.Timelines.{splice-below, splice-from, era-below, era-from, in-era, switches-rise, timeline-proper}
 
--- ---- the label of n + 1 is the next label of n's label, for every whole number n
-pub julian-next : (n : ℤ) → labelOf julian (sucℤ n) ≡ nextLabel julianLeap (labelOf julian n)
-unfolding julian
-julian-next = label-suc julian (J.starts .anchor-valid)
+-- ---- What the timelines say
+-- the Julian calendar has the Julian label on every day, the Gregorian one the Gregorian label
+julian-labels : (n : ℤ) → labels Julian n ≡ labelOf julian n
+julian-labels n = refl
 
-pub gregorian-next : (n : ℤ) → labelOf gregorian (sucℤ n) ≡ nextLabel gregorianLeap (labelOf gregorian n)
-unfolding gregorian
-gregorian-next = label-suc gregorian (G.starts .anchor-valid)
+gregorian-labels : (n : ℤ) → labels Gregorian n ≡ labelOf gregorian n
+gregorian-labels n = refl
 
--- ---- labels rise: the next label is later, and so is every label after it
-next-later : (leap : LeapRule) (l : Label) → l ≺ nextLabel leap l
-next-later leap l = ⊎-elim
-    (λ h. rw (next-day leap l h) (by-day refl refl (omega arith)))
-    (λ h. ⊎-elim
-    (λ k. rw (next-month leap l h k) (by-month refl (omega arith)))
-    (λ k. rw (next-year leap l h k) (by-year (lt-suc (l .year))))
-    (N.lt-or-ge (l .month) 12))
-    (N.lt-or-ge (l .day) (monthLength (leap (l .year)) (l .month)))
+-- reforming at r, days below r have their Julian label and style, days from r on their Gregorian ones
+module _ (r : ℤ) {n : ℤ} where
+  pub reforming-below : n <ℤ r → (labels (Reforming r) n ≡ labelOf julian n) × (style (Reforming r) n ≡ JulianStyle)
+  reforming-below h = in-era (timeline (Reforming r)) n (era-below julianEra (record { on = r; era = gregorianEra }) [] h)
 
-pub after-later : (leap : LeapRule) (k : ℕ) (l : Label) → l ≺ after leap (suc k) l
-unfolding after
-after-later leap zero l = next-later leap l
-after-later leap (suc k) l = ≺-trans (after-later leap k l) (next-later leap (after leap (suc k) l))
+  pub reforming-from : r ≤ℤ n → (labels (Reforming r) n ≡ labelOf gregorian n) × (style (Reforming r) n ≡ GregorianStyle)
+  reforming-from h = in-era (timeline (Reforming r)) n (era-from julianEra (record { on = r; era = gregorianEra }) [] h)
 
-pub reckoning-rises : (c : Reckoning) → Valid (c .leap) (c .anchorLabel) → Rises (labelOf c)
-reckoning-rises c v a b h =
-    let s : (k : ℕ) × (b ≡ a +ℤ pos (suc k)) = steps h in
-    subst (λ (l : Label). labelOf c a ≺ l) (sym (ap (labelOf c) (s .1) ∙ label-after c v a (suc (s .0)))) (after-later (c .leap) (s .0) (labelOf c a))
+pub reforming-either : (r n : ℤ) → (labels (Reforming r) n ≡ labelOf julian n) ⊎ (labels (Reforming r) n ≡ labelOf gregorian n)
+reforming-either r n = ⊎-elim (λ h. inl (reforming-below r h .0)) (λ h. inr (reforming-from r h .0)) (lt-or-ge n r)
 
-pub julian-rises : Rises (labelOf julian)
-julian-rises = reckoning-rises julian (J.starts .anchor-valid)
+pub reforming-labels : (r n : ℤ) → labels (Reforming r) n ≡ splice r (labelOf julian) (labelOf gregorian) n
+reforming-labels r n = ⊎-elim
+    (λ h. reforming-below r h .0 ∙ sym (splice-below r (labelOf julian) (labelOf gregorian) h))
+    (λ h. reforming-from r h .0 ∙ sym (splice-from r (labelOf julian) (labelOf gregorian) h))
+    (lt-or-ge n r)
 
-pub gregorian-rises : Rises (labelOf gregorian)
-gregorian-rises = reckoning-rises gregorian (G.starts .anchor-valid)
+-- ---- They rise
+no-switch : {d : ℤ} → SwitchDay [] d → ⊥
+no-switch s = elim s [ ]
 
--- a reforming calendar rises if its first Gregorian label is later than the Julian label of the same day
+-- a reforming calendar does if its first Gregorian label is later than the Julian label of the same day
 pub reforming-rises : (r : ℤ) → labelOf julian r ≺ labelOf gregorian r → Rises (labels (Reforming r))
-reforming-rises r later = splice-rises r (labelOf julian) (labelOf gregorian) (λ a b h k. julian-rises a b h) (λ a b k h. gregorian-rises a b h)
-    (≺-trans (julian-rises (r -ℤ pos 1) r (back-lt r)) later)
+reforming-rises r up = switches-rise (timeline (Reforming r)) over
+  where
+    over : (d : ℤ) → SwitchDay (timeline (Reforming r) .switches) d → labels (Reforming r) (d -ℤ pos 1) ≺ labels (Reforming r) d
+    over d this = subst₂ _≺_ (sym (reforming-below r (back-lt r) .0)) (sym (reforming-from r (≤ℤ-refl r) .0)) (≺-trans (julian-rises (r -ℤ pos 1) r (back-lt r)) up)
 
 pub accepted-rises : {c : Calendar} → Accepted c → Rises (labels c)
-accepted-rises julian-accepted = julian-rises
-accepted-rises gregorian-accepted = gregorian-rises
+accepted-rises julian-accepted = switches-rise (timeline Julian) (λ d s. absurd (no-switch s))
+accepted-rises gregorian-accepted = switches-rise (timeline Gregorian) (λ d s. absurd (no-switch s))
 accepted-rises (reforming-accepted {r} a) = reforming-rises r (a .later)
 
--- ---- every label is of a month 1 to 12 and a day from 1
-valid-proper : {leap : LeapRule} {l : Label} → Valid leap l → Proper l
-valid-proper v = (v .month-from, v .month-to, v .day-from)
-
-julian-proper : (n : ℤ) → Proper (labelOf julian n)
-julian-proper n = valid-proper (label-valid julian (J.starts .anchor-valid) n)
-
-gregorian-proper : (n : ℤ) → Proper (labelOf gregorian n)
-gregorian-proper n = valid-proper (label-valid gregorian (G.starts .anchor-valid) n)
-
+-- ---- Their labels
 pub labels-proper : (c : Calendar) (n : ℤ) → Proper (labels c n)
-labels-proper Julian n = julian-proper n
-labels-proper Gregorian n = gregorian-proper n
-labels-proper (Reforming r) n = ⊎-elim (λ e. subst Proper (sym e) (julian-proper n)) (λ e. subst Proper (sym e) (gregorian-proper n))
-    (splice-either r (labelOf julian) (labelOf gregorian) n)
+labels-proper c = timeline-proper (timeline c)
 
--- ---- no day of an accepted calendar bears a label that it skips
+-- no day of an accepted calendar bears a label that it skips
 pub skipped-nowhere : {c : Calendar} {l : Label} → Accepted c → Skipped c l → ¬ Borne (labels c) l
 skipped-nowhere a s = between-nowhere (accepted-rises a) (s .past-last) (s .before-first)

@@ -102,32 +102,80 @@ julian = record { leap = julianLeap; anchor = pos 0; anchorLabel = label (negsuc
 unfoldable pub gregorian : Reckoning
 gregorian = record { leap = gregorianLeap; anchor = pos 2_299_161; anchorLabel = label (pos 1582) 10 15 }
 
--- ---- The calendars
+-- ---- Timelines
 
 -- below day d the one, from day d on the other
 unfoldable pub splice : {A : Type 0} → ℤ → (ℤ → A) → (ℤ → A) → ℤ → A
 splice d f g n = cond (ltZ n d) (f n) (g n)
+
+-- what counts as the label of a day: its Julian label, or its Gregorian one
+pub data Counts : Type 0 where
+  JulianLabels : Counts
+  GregorianLabels : Counts
+
+abbrev pub counted : Counts → ℤ → Label
+counted JulianLabels = labelOf julian
+counted GregorianLabels = labelOf gregorian
+
+-- the kind of a label
+pub data Style : Type 0 where
+  JulianStyle : Style
+  GregorianStyle : Style
+
+-- an era: its style, and what counts in it
+pub record Era : Type 0 where
+  pub style : Style
+  pub counts : Counts
+
+abbrev pub julianEra : Era
+julianEra = record { style = JulianStyle; counts = JulianLabels }
+
+abbrev pub gregorianEra : Era
+gregorianEra = record { style = GregorianStyle; counts = GregorianLabels }
+
+-- a switch: from this day on, this era
+pub record Switch : Type 0 where
+  pub on : ℤ
+  pub era : Era
+
+-- a timeline: the era before the first switch, and the switches, the earliest first
+pub record Timeline : Type 0 where
+  pub before : Era
+  pub switches : List Switch
+
+-- the era of each day: the first one below the first switch, and from each switch on that of the switch
+abbrev pub eraFrom : Era → List Switch → ℤ → Era
+eraFrom e [] = λ _. e
+eraFrom e (s ∷ l) = splice (s .on) (λ _. e) (eraFrom (s .era) l)
+
+abbrev pub era : Timeline → ℤ → Era
+era t = eraFrom (t .before) (t .switches)
+
+-- the label of each day, and the kind of label that it is
+abbrev pub labelsIn : Timeline → ℤ → Label
+labelsIn t n = counted (era t n .counts) n
+
+abbrev pub styleIn : Timeline → ℤ → Style
+styleIn t n = era t n .style
+
+-- ---- The calendars
 
 pub data Calendar : Type 0 where
   Julian : Calendar
   Gregorian : Calendar
   Reforming : ℤ → Calendar
 
--- the label that a calendar gives to each day; reforming at r, days below r have their Julian label, days from r on their Gregorian one
-abbrev pub labels : Calendar → ℤ → Label
-labels Julian = labelOf julian
-labels Gregorian = labelOf gregorian
-labels (Reforming r) = splice r (labelOf julian) (labelOf gregorian)
+-- reforming at r, days below r have their Julian label, days from r on their Gregorian one (shown in `Calendars`: `reforming-labels`)
+abbrev pub timeline : Calendar → Timeline
+timeline Julian = record { before = julianEra; switches = [] }
+timeline Gregorian = record { before = gregorianEra; switches = [] }
+timeline (Reforming r) = record { before = julianEra; switches = record { on = r; era = gregorianEra } ∷ [] }
 
--- the kind of label that it is
-pub data Style : Type 0 where
-  JulianStyle : Style
-  GregorianStyle : Style
+abbrev pub labels : Calendar → ℤ → Label
+labels c = labelsIn (timeline c)
 
 abbrev pub style : Calendar → ℤ → Style
-style Julian n = JulianStyle
-style Gregorian n = GregorianStyle
-style (Reforming r) n = splice r (λ _. JulianStyle) (λ _. GregorianStyle) n
+style c = styleIn (timeline c)
 
 -- ---- What is asked of any labelling of the days
 
@@ -211,21 +259,43 @@ pub data Accepted : Calendar → Type 0 where
 
 -- ---- Skipped dates
 
--- the days on which a calendar goes over from one way of labelling to another
-pub data SwitchDay : Calendar → ℤ → Type 0 where
-  reforms : {r : ℤ} → SwitchDay (Reforming r) r
+-- d is the day of one of the switches
+pub data SwitchDay : List Switch → ℤ → Type 0 where
+  this : {s : Switch} {l : List Switch} → SwitchDay (s ∷ l) (s .on)
+  later : {s : Switch} {l : List Switch} {d : ℤ} → SwitchDay l d → SwitchDay (s ∷ l) d
 
 -- which labels count as skipped where they fall into a gap: those of the Gregorian calendar
 abbrev pub Skippable : Label → Type 0
 Skippable = Borne (labelOf gregorian)
 
 -- a label is skipped: it lies between the last label before a switch and the first one after it, and is valid in the Gregorian calendar
-pub record Skipped (c : Calendar) (l : Label) : Type 0 where
+pub record SkippedIn (t : Timeline) (l : Label) : Type 0 where
   pub switch : ℤ
-  pub switches : SwitchDay c switch
-  pub past-last : labels c (switch -ℤ pos 1) ≺ l
-  pub before-first : l ≺ labels c switch
+  pub switches : SwitchDay (t .switches) switch
+  pub past-last : labelsIn t (switch -ℤ pos 1) ≺ l
+  pub before-first : l ≺ labelsIn t switch
   pub skippable : Skippable l
+
+abbrev pub Skipped : Calendar → Label → Type 0
+Skipped c = SkippedIn (timeline c)
+
+-- ---- Timelines that rise
+
+-- the days of the switches rise
+abbrev pub After : ℤ → List Switch → Type 0
+After d [] = Unit {0}
+After d (s ∷ l) = (d <ℤ s .on) × After (s .on) l
+
+abbrev pub InOrder : List Switch → Type 0
+InOrder [] = Unit {0}
+InOrder (s ∷ l) = After (s .on) l
+
+-- the days of the switches rise, the first label of each switch is later than the label of the day before it, and the year of every 32-bit
+-- day is a 32-bit number
+pub record Rising (t : Timeline) : Type 0 where
+  pub in-order : InOrder (t .switches)
+  pub first-later : (d : ℤ) → SwitchDay (t .switches) d → labelsIn t (d -ℤ pos 1) ≺ labelsIn t d
+  pub year-fits : (n : ℤ) → Is32Bit n → Is32Bit (labelsIn t n .year)
 
 -- ---- Unix time
 

@@ -3,7 +3,6 @@ pub mod Examples
 pub mod Steps
 pub mod Order
 pub mod Rising
-pub mod Splice
 pub mod Spans
 pub mod Held
 pub mod Year
@@ -15,6 +14,9 @@ pub mod Gregorian
 pub mod Virtual
 pub mod Range
 pub mod Numbers
+pub mod Reckonings
+pub mod Timelines
+pub mod Places
 pub mod Calendars
 pub mod Reformations
 pub mod Table

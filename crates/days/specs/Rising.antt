@@ -8,8 +8,8 @@ use native.Mathlib.Omega.{arith}
 use lib.IntN.{ℤ, pos, _-ℤ_, +ℤ-idr}
 use lib.Signed.{_<ℤ_, _≤ℤ_, ≤ℤ-refl}
 use Rattle.whole.specs.Tests as N
-use Rattle.whole.specs.Integers.{lt-or-ge, antisym, le-trans, eq-le, back-mono, back-suc}
-use Rattle.days.specs.DayByDay.{Label, _≺_, Rises, OfYear, OfMonth, Place, Days}
+use Rattle.whole.specs.Integers.{lt-or-ge, antisym, le-trans, eq-le, back-mono, back-suc, none-between}
+use Rattle.days.specs.DayByDay.{Label, _≺_, Rises, Borne, OfYear, OfMonth, Place, Days}
 use Rattle.days.specs.Order.{≺-irrefl, ≺-trans, ≺-year, ≺-month}
 
 -- ---- a labelling that rises
@@ -30,12 +30,18 @@ module _ {f : ℤ → Label} (up : Rises f) where
       (λ h. ⊎-elim (λ k. absurd (≺-irrefl (subst (λ (l : Label). f b ≺ l) e (up b a k)))) (λ k. antisym k h) (lt-or-ge b a))
       (lt-or-ge a b)
 
+  -- a label strictly between those of two neighbouring days is on no day
+  pub between-nowhere : {d : ℤ} {l : Label} → f (d -ℤ pos 1) ≺ l → l ≺ f d → ¬ Borne f l
+  between-nowhere {d} h k (n, e) =
+      none-between (up-back (subst (λ (m : Label). f (d -ℤ pos 1) ≺ m) (sym e) h)) (up-back (subst (λ (m : Label). m ≺ f d) (sym e) k))
+
+  -- a later day is of no earlier year
+  pub no-earlier-year : {a b : ℤ} → a ≤ℤ b → (f a .year) ≤ℤ (f b .year)
+  no-earlier-year {a} {b} h = ⊎-elim (λ k. ≺-year (up a b k)) (λ k. eq-le (ap (λ (z : ℤ). f z .year) (antisym h k))) (lt-or-ge a b)
+
   -- between two days of a year every day is of that year, and so of a month
   between-years : {a d b : ℤ} {y : ℤ} → a ≤ℤ d → d ≤ℤ b → OfYear y (f a) → OfYear y (f b) → OfYear y (f d)
-  between-years {a} {d} {b} h k p q = antisym (le-trans (no-later k) (eq-le q)) (le-trans (eq-le (sym p)) (no-later h))
-    where
-      no-later : {a b : ℤ} → a ≤ℤ b → f a .year ≤ℤ f b .year
-      no-later {a} {b} h = ⊎-elim (λ k. ≺-year (up a b k)) (λ k. eq-le (ap (λ (z : ℤ). f z .year) (antisym h k))) (lt-or-ge a b)
+  between-years {a} {d} {b} h k p q = antisym (le-trans (no-earlier-year k) (eq-le q)) (le-trans (eq-le (sym p)) (no-earlier-year h))
 
   between-months : {a d b : ℤ} {y : ℤ} {m : ℕ} → a ≤ℤ d → d ≤ℤ b → OfMonth y m (f a) → OfMonth y m (f b) → OfMonth y m (f d)
   between-months {a} {d} {b} {y} {m} h k p q =

@@ -16,9 +16,8 @@ use lib.Signed.{_<ℤ_, _≤ℤ_}
 use Rattle.whole.specs.Tests as N
 use Rattle.whole.specs.Biased.{unbias-suc, unbias-back, unbias-injective}
 use Rattle.whole.specs.Integers.{lt-or-ge, unbias-up, unbias-down, unbias-le}
-use Rattle.days.specs.DayByDay.{Label, label, Reckoning, labelOf, julian, gregorian, monthLength, _≺_, Calendar, Julian, Gregorian, Reforming, labels, JulianStyle, GregorianStyle, style, Rises, Borne, OfYear, OfMonth, Place, Ordinal, DayOrdinal, Accepted, julian-accepted, gregorian-accepted, reforming-accepted, AcceptedReformation, SwitchDay, reforms, Skipped}
+use Rattle.days.specs.DayByDay.{Label, label, Reckoning, labelOf, julian, gregorian, monthLength, _≺_, Calendar, Julian, Gregorian, Reforming, labels, JulianStyle, GregorianStyle, style, Rises, Borne, OfYear, OfMonth, Place, Ordinal, DayOrdinal, Accepted, julian-accepted, gregorian-accepted, reforming-accepted, AcceptedReformation, SwitchDay, this, Skipped, timeline}
 use Rattle.days.specs.Rising.{up-back, once}
-use Rattle.days.specs.Splice.{splice-below, splice-from, splice-either}
 use Rattle.days.specs.Spans.{Span, First, first-by, Stretch, stretch, year-span, month-span, nextMonth}
 use Rattle.days.specs.Steps.{month-some}
 use Rattle.days.specs.Held.{dayBias, yearBias, day, year, HeldYear}
@@ -27,7 +26,8 @@ use Rattle.days.specs.Starts.{Starts, start-right}
 use Rattle.days.specs.Julian as J
 use Rattle.days.specs.Gregorian as G
 use Rattle.days.specs.Numbers.{There, number, numbered, there, daysBefore, within-year, month-first, month-past}
-use Rattle.days.specs.Calendars.{julian-rises, gregorian-rises, accepted-rises, labels-proper}
+use Rattle.days.specs.Reckonings.{julian-rises, gregorian-rises}
+use Rattle.days.specs.Calendars.{reforming-below, reforming-from, reforming-either, accepted-rises, labels-proper}
 use Rattle.days.specs.Table.{there-too, fits-only}
 
 -- no day that is looked at is held as more
@@ -39,7 +39,7 @@ pub record Runs (c : Calendar) (r : ℕ) : Type 0 where
   pub below : (k : ℕ) → k < r → k < top → (labels c (day k) ≡ labelOf julian (day k)) × (style c (day k) ≡ JulianStyle)
   pub above : (k : ℕ) → r ≤ k → k < top → (labels c (day k) ≡ labelOf gregorian (day k)) × (style c (day k) ≡ GregorianStyle)
   pub either : (n : ℤ) → (labels c n ≡ labelOf julian n) ⊎ (labels c n ≡ labelOf gregorian n)
-  pub switches : 1 ≤ r → r < top → SwitchDay c (day r)
+  pub switches : 1 ≤ r → r < top → SwitchDay (timeline c .switches) (day r)
   -- the r of a calendar that is never Gregorian is top itself, and nothing above it
   pub most : r ≤ top
 
@@ -70,10 +70,10 @@ gregorian-runs = record {
 pub reforming-runs : (r : ℕ) → AcceptedReformation (day r) → Runs (Reforming (day r)) r
 reforming-runs r a = record {
   accepted = reforming-accepted a;
-  below = λ k h t. (splice-below (day r) (labelOf julian) (labelOf gregorian) (unbias-up dayBias h), splice-below (day r) (λ _. JulianStyle) (λ _. GregorianStyle) (unbias-up dayBias h));
-  above = λ k h t. (splice-from (day r) (labelOf julian) (labelOf gregorian) (unbias-le dayBias r k h), splice-from (day r) (λ _. JulianStyle) (λ _. GregorianStyle) (unbias-le dayBias r k h));
-  either = splice-either (day r) (labelOf julian) (labelOf gregorian);
-  switches = λ h t. reforms;
+  below = λ k h t. reforming-below (day r) (unbias-up dayBias h);
+  above = λ k h t. reforming-from (day r) (unbias-le dayBias r k h);
+  either = reforming-either (day r);
+  switches = λ h t. this;
   most = omega (arith, fits-only r (a .julian-day-fits));
 }
 

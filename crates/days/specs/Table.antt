@@ -27,7 +27,7 @@ use Rattle.days.specs.Starts.{start-right}
 use Rattle.days.specs.Julian as J
 use Rattle.days.specs.Gregorian as G
 use Rattle.days.specs.Numbers.{There, number, numbered, there}
-use Rattle.days.specs.Calendars.{julian-rises, gregorian-rises}
+use Rattle.days.specs.Reckonings.{julian-rises, gregorian-rises}
 
 -- ---- the Julian day of a Gregorian label
 

@@ -18,7 +18,7 @@ use Rattle.days.specs.Order.{≺-year}
 use Rattle.days.specs.Year.{yearLength, InYear as MonthAndDay, inYear, dayOfYear, year-most, year-walk, year-over}
 use Rattle.days.specs.Months.{no-month, ordinal-is, ordinal-within}
 use Rattle.days.specs.Numbers.{daysBefore, before, toThirty, monthAt, month-at}
-use Rattle.days.specs.Calendars.{after-later}
+use Rattle.days.specs.Reckonings.{after-later}
 use Rattle.monthdays.specs.declared.MonthDay.the-variants as MonthDay′
 use Rattle.monthdays.specs.declared.DayOrdinal.the-variants as DayOrdinal′
 use Rattle.monthdays.specs.Promise.{InYear, MonthDayOf, month-day, OrdinalOf, ordinal, MonthDayAt}

@@ -10,7 +10,7 @@ use Rattle.whole.specs.Tests.{lt-or-ge}
 use Rattle.days.specs.DayByDay.{Label, label, _≺_, nextLabel, prevLabel, stepping}
 use Rattle.days.specs.Order.{≺-irrefl}
 use Rattle.days.specs.Steps.{after, after-stepping, after-sum}
-use Rattle.days.specs.Calendars.{after-later}
+use Rattle.days.specs.Reckonings.{after-later}
 use Rattle.days.specs.Numbers.{daysBefore}
 use Rattle.monthdays.specs.declared.MonthDay.{MonthDay}
 use Rattle.monthdays.specs.declared.DayOrdinal.{DayOrdinal}

@@ -18,7 +18,7 @@ unix2jdn-one t = unless-one (λ o. day-time-of-one t)
 timed-of-one : (c : Calendar) (t : ℤ) → One (TimedOf c t)
 timed-of-one c t a b (timed-of {d = d} p i) (timed-of {d = e} q j) =
     let f = unix-time-one p q in
-    let g : d ≡ e = record-one c (subst (λ (n : ℤ). IsRecord c n d) (f .same-day) i) j in
+    let g : d ≡ e = record-one (subst (λ (n : ℤ). IsRecord c n d) (f .same-day) i) j in
     let h = f .same-seconds in
     cc
 

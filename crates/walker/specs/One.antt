@@ -21,8 +21,8 @@ makes-one k d = unless-one (λ g. made-one k d)
 moves-one : (w : Walker) → One (Moves w)
 moves-one w a b (moves {d = d} {h = h} {e = e} p i u) (moves {d = c} {h = g} {e = f} q j v) =
     let s : e ≡ f = ended-one (toward (w .kind) (gives (w .kind) (w .date .jdn))) e f i j in
-    let r : d ≡ c = record-one (w .date .calendar) p q in
-    let t : h ≡ g = record-one (w .date .calendar) (subst (λ (e : Bool). IsRecord (w .date .calendar) (holds (w .kind) e (gives (w .kind) (w .date .jdn))) h) s u) v in
+    let r : d ≡ c = record-one p q in
+    let t : h ≡ g = record-one (subst (λ (e : Bool). IsRecord (w .date .calendar) (holds (w .kind) e (gives (w .kind) (w .date .jdn))) h) s u) v in
     cc
 
 pub steps-one : (w : Walker) → One (Steps w)

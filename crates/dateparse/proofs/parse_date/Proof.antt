@@ -59,14 +59,14 @@ returns-3 : tie.Need-returns-3
 returns-3 c =
     let k = c .before .before in
     let r = k .before .before .before in
-    passes (accepted r) (ordinal-row _ (rw (k .before .year .given .1) at (r .read-date .ensures))
+    passes (accepted r) (ordinal-row _ (rw (k .before .year .given .1) at (r .read-date .ensures)) (accepted r)
     (rw (toZ-ofZ (sfits-of (k .known-told2 .given .0 .1))) at (c .before .at-ordinal-date .ensures)) (c .placed .ensures))
 
 returns-4 : tie.Need-returns-4
 returns-4 c =
     let k = c .before .before in
     let r = k .before .before .before in
-    passes (accepted r) (ymd-row _ (rw (k .before .year2 .given .1) at (r .read-date .ensures))
+    passes (accepted r) (ymd-row _ (rw (k .before .year2 .given .1) at (r .read-date .ensures)) (accepted r)
     (rw (toZ-ofZ (sfits-of (k .known-told3 .given .0 .1))) at (c .before .at-ymd .ensures)) (c .placed2 .ensures))
 
 pub parse-date-spec : {M : Type 1} → statement M
