@@ -3,7 +3,7 @@
 use mathlib.Core.Path.{_≡_, refl, sym, _∙_, ap, ap₂, subst, subst₂}
 use mathlib.Core.Bool.{Bool, true, false, not}
 use mathlib.Core.Logic.{_⊎_, inl, inr, ⊎-elim}
-use Prim.Native.Nat.{ℕ, _+_, _-_, _*_, _/_, _<_, _≤_, _^_}
+use Prim.Native.Nat.{ℕ, zero, suc, _+_, _-_, _*_, _/_, _<_, _≤_, _^_}
 use native.Mathlib.Omega.{arith}
 use borrow.Author.Tests.{lt-ltb, le-ltb}
 use lib.Dec.{ltb}
@@ -11,10 +11,10 @@ use lib.IntN.{ℤ, pos}
 use Rattle.whole.specs.Tests.{lt-or-ge}
 use Rattle.whole.specs.Biased.{unbias}
 use Rattle.days.specs.DayByDay as D
-use Rattle.days.specs.DayByDay.{AcceptedReformation, label, Borne, OfYear, Place, Ordinal, DayOrdinal, Is32Bit, Style, JulianStyle, GregorianStyle, style, Month}
-use Rattle.days.specs.Rising.{days-one}
+use Rattle.days.specs.DayByDay.{AcceptedReformation, Label, label, Borne, OfYear, Place, Ordinal, DayOrdinal, Is32Bit, Style, JulianStyle, GregorianStyle, style, Month}
+use Rattle.days.specs.Rising.{days-one, nth-within}
 use Rattle.days.specs.Held.{dayBias, day, year, HeldYear}
-use Rattle.days.specs.Year.{year-most}
+use Rattle.days.specs.Year.{yearLength, year-most}
 use Rattle.days.specs.Spans.{Stretch}
 use Rattle.days.specs.Starts.{Spot}
 use Rattle.days.specs.Julian as J
@@ -22,7 +22,7 @@ use Rattle.days.specs.Gregorian as G
 use Rattle.days.specs.Numbers.{daysBefore, few-before}
 use Rattle.days.specs.Reformations.{all-three}
 use Rattle.days.specs.Table.{accepts-only, fits-held}
-use Rattle.days.specs.Calendars.{skipped-nowhere}
+use Rattle.days.specs.Calendars.{labels-proper, skipped-nowhere}
 use Rattle.days.specs.Runs.{Runs, reforming-runs, firstDay, first-cases, first-julian, yearFirst, monthFirst, julianMonth, gregorianMonth, year-plain, month-plain, year-stretch, ordinal-at, day-ordinal-at, on-old, on-new, in-gap, on-none}
 use Rattle.inner.specs.Natural.{heldDay, heldYear, Lowers, within, beyond}
 use Rattle.monthdays.specs.Promise.{MonthDayAt, OrdinalOf}
@@ -42,19 +42,21 @@ use Rattle.calendar.specs.declared.Reformed.the-variants as Reformed′
 use Rattle.calendar.specs.declared.Dated.{Dated}
 use Rattle.calendar.specs.declared.Dated.the-variants as Dated′
 use Rattle.calendar.specs.declared.Switch.the-variants as Switch′
+use Rattle.calendar.specs.declared.Usual.{Usual}
+use Rattle.calendar.specs.declared.Usual.the-variants as Usual′
 use Rattle.inner.specs.declared.Spot as S
-use Rattle.inner.specs.Spots.{At, at-number, at-from, at-few}
+use Rattle.inner.specs.Spots.{At, spot, at-number, at-from, at-few}
 use Rattle.changeover.specs.declared.Found.the-variants as Found′
 use Rattle.changeover.specs.Spots.{YearSpan, Finds, finds-old, finds-new, finds-gap, finds-none}
-use Rattle.changeover.specs.Laws.{starts-close, ordinal-sum}
+use Rattle.changeover.specs.Laws.{starts-close, Wholly, wholly-old, wholly-new, wholly-none, wholly-days, ordinal-sum, ordinal-none, read-at}
 use Rattle.refusals.specs.declared.Refusal.{Refusal}
 use Rattle.ways.specs.declared.Neighbour.the-variants as Neighbour′
 use Rattle.ways.specs.Ways.{IsNeighbour, there, nowhere}
 use Rattle.calendar.specs.Calendars.{meant, labels, Accepted, IsRecord, Genuine, sameStyle, styleIs}
 use Rattle.calendar.specs.Rows.{refuses, passes}
-use Rattle.calendar.specs.Promise.{refused, refusedReformation, Reforms, judged, RecordOf, record-of, Given, ByLabel, on-label, ByOrdinal, OffYear, on-ordinal, AtJdn, IsGenuine, Next, ConvertsTo}
+use Rattle.calendar.specs.Promise.{refused, refusedReformation, Reforms, judged, RecordOf, record-of, Given, ByLabel, on-label, ByOrdinal, OffYear, on-ordinal, AtJdn, AtYmd, AtOrdinal, IsGenuine, Next, ConvertsTo}
 use Rattle.calendar.specs.One.{whole, record-one}
-use Rattle.calendar.specs.Natural.{SwitchIs, switches-at, no-calendar, InYear, LabelledAt, old, new, OnSpot, OfALabel, plainRecord, SpotAt, fieldsOf}
+use Rattle.calendar.specs.Natural.{SwitchIs, switches-at, no-calendar, InYear, LabelledAt, old, new, OnSpot, OfALabel, plainRecord, Plain, SpotAt, UsualLabel, UsualOrdinal, OnUsualSpot, InTurning, fieldsOf}
 
 -- ---- Where a calendar goes over
 pub switch-accepted : {r : ℤ} {k : ℕ} → Judges r (Judgement′.Accepted k) → SwitchIs (Reforming r) (Switch′.At k)
@@ -441,3 +443,121 @@ other-style d e = ap not e ∙ other (style (meant (d .calendar)) (d .jdn))
 -- ---- The day of the reformation
 pub reform-some : {r : ℤ} (x : ℕ) → Accepted (Reforming r) → unbias (2 ^ 31) x ≡ r → 1 ≤ x
 reform-some x (D.reforming-accepted a) e = omega (arith, accepts-only (heldDay x) (omega arith) (subst D.AcceptedReformation (sym (held-day x ∙ e)) a))
+
+-- ---- The rows of a day that is found: by its label, and by its place in its year
+module _ {c : Calendar} {n z : ℤ} {a : Dated} (acc : Accepted c) (g : Given c z n a) where
+  pub label-given : {m d : ℕ} → labels c n ≡ label z m d → AtYmd c z m d a
+  label-given {m} {d} e =
+      let p = labels-proper (meant c) n in
+      let here : Borne (labels c) (label z m d) = (n, e) in
+      passes acc (passes (subst (λ (l : Label). Month (l .month)) e (p .0, p .1)) (passes (λ k. k .0 here) (passes (λ s. skipped-nowhere acc s here) (on-label e g))))
+
+  pub ordinal-given : {o : ℕ} → OfYear z (labels c n) → Place (λ d. OfYear z (labels c d)) n o → AtOrdinal c z o a
+  ordinal-given {o} u p = passes acc (passes inside (on-ordinal u p g))
+    where
+      inside : ¬ OffYear c z o
+      inside (t, days, off) = let (i, j) = nth-within days u p in ⊎-elim (λ e. low i e) (λ h. high t j h) off
+        where
+          low : 1 ≤ o → o ≡ 0 → ⊥
+          low i e = omega arith
+
+          high : (t : ℕ) → o ≤ t → t < o → ⊥
+          high t j h = omega arith
+
+-- ---- Usual dates
+-- a spot in a year that is wholly in one reckoning
+in-old : {r y k m d o : ℕ} → J.start y + 366 < r → At J.leapAt J.start k y m d o → LabelledAt r k y m d o × (r ≤ k → r + o ≤ k + 1)
+in-old {r} {y} {k} {o = o} g a = let h : k < r = below (J.start y) g (a .adds) in (old h a, λ i. absurd (never i h))
+  where
+    below : (s : ℕ) → s + 366 < r → s + o ≡ k + 1 → k < r
+    below s g e = omega (arith, at-few a)
+
+    never : r ≤ k → k < r → ⊥
+    never i h = omega arith
+
+in-new : {r y k m d o : ℕ} → r ≤ G.start y → At G.leapAt G.start k y m d o → LabelledAt r k y m d o × (r ≤ k → r + o ≤ k + 1)
+in-new {r} {y} {k} {o = o} g a = (new (from (G.start y) g (a .adds)) a, λ i. over (G.start y) g (a .adds))
+  where
+    from : (s : ℕ) → r ≤ s → s + o ≡ k + 1 → r ≤ k
+    from s g e = omega (arith, at-from a)
+
+    over : (s : ℕ) → r ≤ s → s + o ≡ k + 1 → r + o ≤ k + 1
+    over s g e = omega arith
+
+one : (s o : ℕ) → 1 ≤ o → s + o ≡ s + o - 1 + 1
+one s o h = omega arith
+
+-- by a month and a day of it, and by an ordinal
+module _ (y : ℕ) {r : ℕ} (h : HeldYear (heldYear y)) where
+  pub whole-label : {t : ℕ} {b : Bool} {m d o : ℕ} → Wholly r (heldYear y) t b → OrdinalOf b m d (DayOrdinal′.At o) → OnSpot r (spot (t + o - 1) y o m d) × Plain r (spot (t + o - 1) y o m d)
+  whole-label {m = m} {d} (wholly-old g) p = let (v, e) = ordinal-sum p in in-old g (read-at J.leapAt J.start y m d h refl refl v e)
+  whole-label {m = m} {d} (wholly-new f g) p = let (v, e) = ordinal-sum p in in-new g (read-at G.leapAt G.start y m d h refl refl v e)
+
+  pub whole-ordinal : {t : ℕ} {b : Bool} {o : ℕ} {s : S.Spot} → Wholly r (heldYear y) t b → 1 ≤ o → o ≤ yearLength b → SpotAt (t + o - 1) y o b s → OnSpot r s × Plain r s
+  whole-ordinal {o = o} (wholly-old g) from to q = subst (λ (s : S.Spot). OnSpot r s × Plain r s) (sym (q .is))
+      (in-old g (spot-made h (record { from = from; to = to; adds = one (J.start (heldYear y)) o from }) refl q))
+  whole-ordinal {o = o} (wholly-new f g) from to q = subst (λ (s : S.Spot). OnSpot r s × Plain r s) (sym (q .is))
+      (in-new g (spot-made h (record { from = from; to = to; adds = one (G.start (heldYear y)) o from }) refl q))
+
+-- its record, or 7
+module _ (c : Calendar) {r : ℕ} (s : S.Spot) {z : ℤ} (runs : Runs (meant c) r) (l : OnSpot r s) (p : Plain r s) where
+  pub usual-date : {n : ℤ} {d : Date} → Lowers (s .held) (DayNumber′.Day n) → d ≡ plainRecord c s n → OnUsualSpot c z s (Usual′.Date d)
+  usual-date {n} w e = given-held c w (subst (IsRecord c n) (sym e) (record-plain c runs s l (lowered-day w) p))
+
+-- the answer then, to a label and to an ordinal
+module _ (c : Calendar) {r : ℕ} (runs : Runs (meant c) r) (s : S.Spot) {z : ℤ} (e : year (heldYear (s .year)) ≡ z) (l : OnSpot r s) where
+  spot-label : labels c (day (s .held)) ≡ label z (s .month) (s .day)
+  spot-label = labelled-is c runs l ∙ ap (λ (z : ℤ). label z (s .month) (s .day)) e
+
+  pub usual-ymd : (u : Usual) → OnUsualSpot c z s u → UsualLabel c z (s .month) (s .day) u
+  usual-ymd (Usual′.Date d) g = label-given (runs .accepted) g spot-label
+  usual-ymd (Usual′.Refused f) g = label-given (runs .accepted) g spot-label
+  usual-ymd (Usual′.Turning r) g = absurd g
+
+  module _ (p : Plain r s) where
+    spot-place : Place (λ d. OfYear z (labels c d)) (day (s .held)) (s .ordinal)
+    spot-place = subst₂ (λ (y : ℤ) (o : ℕ). Place (λ d. OfYear y (labels c d)) (day (s .held)) o) (ap (λ (l : Label). l .year) spot-label) (plain-ordinal c runs l p)
+        (ordinal-at runs (s .held) (heldYear (s .year)) (s .month) (s .day) (labelled-held c runs l) (labelled-is c runs l))
+
+    pub usual-ordinal : (u : Usual) → OnUsualSpot c z s u → UsualOrdinal c z (s .ordinal) u
+    usual-ordinal (Usual′.Date d) g = ordinal-given (runs .accepted) g (ap (λ (l : Label). l .year) spot-label) spot-place
+    usual-ordinal (Usual′.Refused f) g = ordinal-given (runs .accepted) g (ap (λ (l : Label). l .year) spot-label) spot-place
+    usual-ordinal (Usual′.Turning r) g = absurd g
+
+pub ordinal-spot : (c : Calendar) {r : ℕ} (runs : Runs (meant c) r) {k y o : ℕ} {b : Bool} (s : S.Spot) {z : ℤ} → SpotAt k y o b s → year (heldYear y) ≡ z → OnSpot r s × Plain r s
+    → (u : Usual) → OnUsualSpot c z s u → UsualOrdinal c z o u
+ordinal-spot c runs s {z} q e (l, p) u g = subst (λ (o : ℕ). UsualOrdinal c z o u) (ap (λ (s : S.Spot). s .ordinal) (q .is))
+    (usual-ordinal c runs s (ap (λ (s : S.Spot). year (heldYear (s .year))) (q .is) ∙ e) l p u g)
+
+-- the refusals of a year that is wholly in one reckoning
+module _ (c : Calendar) {r : ℕ} (runs : Runs (meant c) r) (y : ℕ) {z : ℤ} (h : HeldYear (heldYear y)) (e : year (heldYear y) ≡ z) where
+  pub whole-none : {t m d : ℕ} {b : Bool} → Month m → Wholly r (heldYear y) t b → OrdinalOf b m d DayOrdinal′.Nothing → AtYmd c z m d (refused 4 (pos d))
+  whole-none {m = m} {d} v w n = let (g, i) = wholly-none y w (ordinal-none n) in passes (runs .accepted) (passes v (refuses (on-none runs (heldYear y) m d e h g i)))
+
+  off-year : {o : ℕ} → ((o ≡ 0) ⊎ (yearFirst r (heldYear y + 1) - yearFirst r (heldYear y) < o)) → AtOrdinal c z o (refused 6 (pos o))
+  off-year {o} n = passes (runs .accepted) (subst (λ (z : ℤ). ByOrdinal c z o (refused 6 (pos o))) e
+      (refuses (yearFirst r (heldYear y + 1) - yearFirst r (heldYear y), year-stretch runs (heldYear y) h .days, n)))
+
+  pub none-before-one : {o : ℕ} → o < 1 → AtOrdinal c z o (refused 6 (pos o))
+  none-before-one n = off-year (inl (omega arith))
+
+  pub none-past-whole : {t o : ℕ} {b : Bool} → Wholly r (heldYear y) t b → yearLength b < o → AtOrdinal c z o (refused 6 (pos o))
+  none-past-whole {o = o} w n = off-year (inr (subst (λ (k : ℕ). k < o) (sym (wholly-days (heldYear y) w)) n))
+
+-- ---- The year of a switch
+pub turning-ordinal : (c : Calendar) {z : ℤ} (m : ℕ) {o : ℕ} {a : Dated} → m ≡ 0 → ByOrdinal c z o a → InTurning c z m o a
+turning-ordinal c {z} m {o} {a} e p = rw e p
+
+pub turning-label : (c : Calendar) {z : ℤ} (m : ℕ) {d : ℕ} {a : Dated} → 1 ≤ m → ByLabel c z m d a → InTurning c z m d a
+turning-label c zero h p = absurd (nought h)
+  where
+    nought : 1 ≤ zero → ⊥
+    nought h = omega arith
+turning-label c (suc m) h p = p
+
+pub label-turning : (c : Calendar) {z : ℤ} (m : ℕ) {d : ℕ} {a : Dated} → 1 ≤ m → InTurning c z m d a → ByLabel c z m d a
+label-turning c zero h p = absurd (nought h)
+  where
+    nought : 1 ≤ zero → ⊥
+    nought h = omega arith
+label-turning c (suc m) h p = p

@@ -2,8 +2,8 @@
 use mathlib.Core.Path.{_≡_}
 use mathlib.Core.Bool.{Bool}
 use lib.IntN.{ℤ, pos}
-use Prim.Native.Nat.{ℕ, _-_, _<_, _≤_}
-use Rattle.days.specs.DayByDay.{label, OfYear, JulianStyle, style}
+use Prim.Native.Nat.{ℕ, zero, suc, _+_, _-_, _<_, _≤_}
+use Rattle.days.specs.DayByDay.{label, OfYear, Month, JulianStyle, style}
 use Rattle.days.specs.Held.{day, year, HeldYear}
 use Rattle.days.specs.Julian as J
 use Rattle.days.specs.Gregorian as G
@@ -14,6 +14,10 @@ use Rattle.fields.specs.declared.Fields.{Fields}
 use Rattle.refusals.specs.declared.Refusal.{Refusal}
 use Rattle.calendar.specs.declared.Calendar.{Calendar}
 use Rattle.calendar.specs.declared.Date.{Date}
+use Rattle.calendar.specs.declared.Dated.{Dated}
+use Rattle.calendar.specs.declared.Dated.the-variants as Dated′
+use Rattle.calendar.specs.declared.Usual.{Usual}
+use Rattle.calendar.specs.declared.Usual.the-variants as Usual′
 use Rattle.calendar.specs.declared.Switch.{Switch}
 use Rattle.calendar.specs.declared.Switch.the-variants as Switch′
 use Rattle.inner.specs.declared.Spot.{Spot}
@@ -22,7 +26,7 @@ use Rattle.calendar.specs.declared.ReformDate.{ReformDate}
 use Rattle.calendar.specs.declared.ReformDate.the-variants as ReformDate′
 use Rattle.calendar.specs.Calendars.{meant, labels, Accepted, Skipped, sameStyle}
 use Rattle.calendar.specs.Rows.{Unless, If}
-use Rattle.calendar.specs.Promise.{refusal, made-up, Missing, ReformRecord}
+use Rattle.calendar.specs.Promise.{refusal, made-up, Given, ByLabel, AtYmd, ByOrdinal, AtOrdinal, Missing, ReformRecord}
 
 -- the calendar is Julian below the held day r and Gregorian from it on; or it is made up
 pub data SwitchIs (c : Calendar) : Switch → Type 0 where
@@ -52,10 +56,37 @@ OfALabel c y m d refused Below = If (Missing c (label y m d)) (refused (refusal 
 abbrev pub plainRecord : Calendar → Spot → ℤ → Date
 plainRecord c s n = record { calendar = c; year = year (heldYear (s .year)); ordinal = s .ordinal; month = s .month; day = s .day; «day_ordinal» = s .day; jdn = n }
 
+-- the places of a spot are those of its own reckoning: it is before the switch, or its year begins from the switch on
+abbrev pub Plain : ℕ → Spot → Type 0
+Plain r s = r ≤ s .held → r + s .ordinal ≤ s .held + 1
+
 -- a spot is of this day, year and ordinal, with the month and the day that the ordinal has
 pub record SpotAt (k y o : ℕ) (leap : Bool) (s : Spot) : Type 0 where
   pub is : s ≡ spot k y o (s .month) (s .day)
   pub month-day : MonthDayAt leap o (s .month) (s .day)
+
+-- ---- Usual dates
+
+-- the answer is as P says; or the year is one of a switch, and Q holds of the day on which the calendar goes over
+abbrev pub Usually : (Dated → Type 0) → (ℕ → Type 0) → Usual → Type 0
+Usually P Q (Usual′.Date d) = P (Dated′.Date d)
+Usually P Q (Usual′.Refused f) = P (Dated′.Refused f)
+Usually P Q (Usual′.Turning r) = Q r
+
+abbrev pub UsualLabel : Calendar → ℤ → ℕ → ℕ → Usual → Type 0
+UsualLabel c y m d = Usually (AtYmd c y m d) (λ r. Runs (meant c) r × Month m)
+
+abbrev pub UsualOrdinal : Calendar → ℤ → ℕ → Usual → Type 0
+UsualOrdinal c y o = Usually (AtOrdinal c y o) (Runs (meant c))
+
+-- a spot in a year that is wholly in one reckoning
+abbrev pub OnUsualSpot : Calendar → ℤ → Spot → Usual → Type 0
+OnUsualSpot c y s = Usually (Given c y (day (s .held))) (λ r. ⊥)
+
+-- in the year of a switch: a day of a month, or with month 0 a day of the whole year
+abbrev pub InTurning : Calendar → ℤ → ℕ → ℕ → Dated → Type 0
+InTurning c y zero o = ByOrdinal c y o
+InTurning c y (suc m) d = ByLabel c y (suc m) d
 
 -- ---- Of a calendar and of a date
 

@@ -15,7 +15,7 @@ use Rattle.calendar.specs.declared.Date.{Date}
 use Rattle.calendar.specs.declared.Switch.the-variants as Switch′
 use Rattle.calendar.specs.declared.Dated.the-variants as Dated′
 use Rattle.calendar.specs.declared.ReformDate.the-variants as ReformDate′
-use Rattle.calendar.specs.Calendars.{timeline, IsRecordIn, IsRecord}
+use Rattle.calendar.specs.Calendars.{timeline, IsRecordIn}
 use Rattle.calendar.specs.Rows.{One, unless-one, if-one, answers-one}
 use Rattle.calendar.specs.Promise.{outcomeIs, Reforms, judged, RecordOfIn, record-of, AtJdn, GivenIn, Given, OnLabelIn, on-label, YmdIn, AtYmd, OnOrdinalIn, on-ordinal, OrdinalIn, AtOrdinal, TellsCalendar, ReformationOf, reformDay, ReformRecord, never-julian, never-gregorian, reform-record, LastJulian, FirstGregorian, IsGenuine, TellsDate, CountsDate, Next, ConvertsTo}
 use Rattle.calendar.specs.Natural.{SwitchIs, switches-at, no-calendar}

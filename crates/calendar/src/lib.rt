@@ -106,6 +106,13 @@ pub fn switch_of(calendar: Calendar) -> Switch
     }
 }
 
+// What is found in line: the answer in a year that is wholly in one reckoning, or where the calendar goes over if the year is not.
+enum Usual {
+    Date(Date),
+    Refused(Refusal),
+    Turning(u64),
+}
+
 // ---- Refusals
 
 fn made_up() -> Dated
@@ -165,17 +172,10 @@ impl Calendar {
         ensures { λ d. ⌜ AtYmd self year month day d ⌝ }
     {
         let calendar = self;
-        match switch_of(calendar) {
-            Switch::MadeUp => made_up(),
-            Switch::At(switch) => {
-                if month < 1 {
-                    return refused_count(3, month);
-                }
-                if 12 < month {
-                    return refused_count(3, month);
-                }
-                record::on_label(calendar, switch, year, month, day)
-            }
+        match record::usual_label(calendar, year, month, day) {
+            Usual::Date(date) => Dated::Date(date),
+            Usual::Refused(refusal) => Dated::Refused(refusal),
+            Usual::Turning(switch) => record::turning(calendar, switch, year, month, day),
         }
     }
 
@@ -184,9 +184,10 @@ impl Calendar {
         ensures { λ d. ⌜ AtOrdinal self year ordinal d ⌝ }
     {
         let calendar = self;
-        match switch_of(calendar) {
-            Switch::MadeUp => made_up(),
-            Switch::At(switch) => record::on_ordinal(calendar, switch, year, ordinal),
+        match record::usual_ordinal(calendar, year, ordinal) {
+            Usual::Date(date) => Dated::Date(date),
+            Usual::Refused(refusal) => Dated::Refused(refusal),
+            Usual::Turning(switch) => record::turning(calendar, switch, year, 0, ordinal),
         }
     }
 

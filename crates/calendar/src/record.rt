@@ -7,13 +7,14 @@ ghost use Rattle.days.specs.Held as Held;
 ghost use Rattle.days.specs.Runs.{Runs, julianMonth};
 ghost use Rattle.days.specs.DayByDay.{Month};
 ghost use Rattle.inner.specs.Natural.{heldYear};
-ghost use Rattle.monthdays.specs.Promise.{MonthDayAt};
 ghost use Rattle.calendar.specs.Calendars.{meant, IsRecord};
 ghost use Rattle.calendar.specs.Promise.{Given, ByLabel, ByOrdinal};
-ghost use Rattle.calendar.specs.Natural.{SpotAt, OnSpot, InYear, plainRecord};
+ghost use Rattle.calendar.specs.Natural.{SpotAt, OnSpot, InYear, plainRecord, Plain, UsualLabel, UsualOrdinal, OnUsualSpot, InTurning};
 use crate::Calendar;
 use crate::Date;
 use crate::Dated;
+use crate::Switch;
+use crate::Usual;
 use changeover::Found;
 use inner::DayNumber;
 use inner::Spot;
@@ -130,7 +131,7 @@ fn julian_month(year: u32, month: u32) -> u64
 
 // ---- From a label to its day
 
-pub fn on_label(calendar: Calendar, switch: u64, year: i32, month: u32, day: u32) -> Dated
+fn on_label(calendar: Calendar, switch: u64, year: i32, month: u32, day: u32) -> Dated
     requires { ⌜ Runs (meant calendar) switch × Month month ⌝ }
     ensures { λ d. ⌜ ByLabel calendar year month day d ⌝ }
 {
@@ -154,7 +155,7 @@ fn given(calendar: Calendar, switch: u64, s: Spot) -> Dated
 
 // ---- From a place in a year to its day
 
-pub fn on_ordinal(calendar: Calendar, switch: u64, year: i32, ordinal: u32) -> Dated
+fn on_ordinal(calendar: Calendar, switch: u64, year: i32, ordinal: u32) -> Dated
     requires { ⌜ Runs (meant calendar) switch ⌝ }
     ensures { λ d. ⌜ ByOrdinal calendar year ordinal d ⌝ }
 {
@@ -188,4 +189,88 @@ fn in_year(calendar: Calendar, switch: u64, year: u32, held: u64) -> Dated
         switch,
         spot_at(held, year, ordinal as u32, inner::is_gregorian_leap(year)),
     )
+}
+
+// ---- Usual dates: of a year that is wholly in one reckoning
+
+pub fn usual_label(calendar: Calendar, year: i32, month: u32, day: u32) -> Usual
+    ensures { λ u. ⌜ UsualLabel calendar year month day u ⌝ }
+{
+    match crate::switch_of(calendar) {
+        Switch::MadeUp => Usual::Refused(refusals::refusal_of(16, 0)),
+        Switch::At(switch) => {
+            if month < 1 {
+                return Usual::Refused(refusals::refusal_with(3, month));
+            }
+            if 12 < month {
+                return Usual::Refused(refusals::refusal_with(3, month));
+            }
+            let y = whole::raised(year);
+            let at = changeover::year_in(switch, y);
+            if at.whole {
+                return match monthdays::md2ordinal(at.leap, month, day) {
+                    DayOrdinal::Nothing => Usual::Refused(refusals::refusal_with(4, day)),
+                    DayOrdinal::At(ordinal) => {
+                        let s = Spot {
+                            held: at.first + ordinal as u64 - 1,
+                            year: y,
+                            ordinal: ordinal,
+                            month: month,
+                            day: day,
+                        };
+                        usual_spot(calendar, switch, year, s)
+                    }
+                };
+            }
+            Usual::Turning(switch)
+        }
+    }
+}
+
+pub fn usual_ordinal(calendar: Calendar, year: i32, ordinal: u32) -> Usual
+    ensures { λ u. ⌜ UsualOrdinal calendar year ordinal u ⌝ }
+{
+    match crate::switch_of(calendar) {
+        Switch::MadeUp => Usual::Refused(refusals::refusal_of(16, 0)),
+        Switch::At(switch) => {
+            let y = whole::raised(year);
+            if ordinal < 1 {
+                return Usual::Refused(refusals::refusal_with(6, ordinal));
+            }
+            let at = changeover::year_in(switch, y);
+            if at.whole {
+                if inner::days_in_year(at.leap) < ordinal {
+                    return Usual::Refused(refusals::refusal_with(6, ordinal));
+                }
+                let s = spot_at(at.first + ordinal as u64 - 1, y, ordinal, at.leap);
+                return usual_spot(calendar, switch, year, s);
+            }
+            Usual::Turning(switch)
+        }
+    }
+}
+
+// The record of a spot in such a year, or that 32 bits do not hold its day number.
+fn usual_spot(calendar: Calendar, switch: u64, year: i32, s: Spot) -> Usual
+    requires { ⌜ Runs (meant calendar) switch × OnSpot switch s × Plain switch s ⌝ }
+    ensures { λ u. ⌜ OnUsualSpot calendar year s u ⌝ }
+{
+    match inner::day_number(s.held) {
+        DayNumber::Day(jdn) => Usual::Date(plain_record(calendar, s, jdn)),
+        DayNumber::Nothing => Usual::Refused(refusals::outside_32_bits(year)),
+        DayNumber::Outside32 => Usual::Refused(refusals::outside_32_bits(year)),
+    }
+}
+
+// ---- The year of a switch: a day of a month, or with month 0 a day of the whole year
+
+// It has two callers, and so the compiler leaves it out of the way of the usual dates.
+pub fn turning(calendar: Calendar, switch: u64, year: i32, month: u32, number: u32) -> Dated
+    requires { ⌜ Runs (meant calendar) switch × (month ≤ 12) ⌝ }
+    ensures { λ d. ⌜ InTurning calendar year month number d ⌝ }
+{
+    if month == 0 {
+        return on_ordinal(calendar, switch, year, number);
+    }
+    on_label(calendar, switch, year, month, number)
 }

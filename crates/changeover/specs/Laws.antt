@@ -1,10 +1,11 @@
 -- From the arithmetic of a label, of a year and of a month to what is said of them.
 -- Assumes nothing.
 use mathlib.Core.Path.{_≡_, sym, _∙_, ap, ap₂, subst}
-use mathlib.Core.Bool.{Bool}
+use mathlib.Core.Bool.{Bool, true}
 use Prim.Native.Nat.{ℕ, _+_, _-_, _/_, _<_, _≤_}
 use native.Mathlib.Omega.{arith}
 use native.Mathlib.Numerals.{add-one}
+use lib.Dec.{T, ltb, leb, ltb→lt, leb→le}
 use lib.IntN.{pos}
 use Rattle.refusals.specs.Refusals.{refusal}
 use Rattle.days.specs.DayByDay as D
@@ -17,12 +18,13 @@ use Rattle.days.specs.Gregorian as G
 use Rattle.days.specs.Numbers.{There, daysBefore}
 use Rattle.days.specs.Table.{there-too}
 use Rattle.days.specs.Steps.{month-some}
-use Rattle.days.specs.Runs.{top, firstDay, first-cases, julianMonth, gregorianMonth, monthFirst, monthPast}
+use Rattle.days.specs.Runs.{top, yearFirst, firstDay, first-julian, first-gregorian, first-cases, julianMonth, gregorianMonth, monthFirst, monthPast}
 use Rattle.inner.specs.Natural.{heldYear}
 use Rattle.monthdays.specs.Promise.{OrdinalOf, ordinal, no-ordinal}
 use Rattle.monthdays.specs.One.{in-year-ordinal}
 use Rattle.monthdays.specs.Laws.{in-year-valid, in-year-month}
 use Rattle.monthdays.specs.declared.DayOrdinal.the-variants as DayOrdinal′
+use Rattle.changeover.specs.declared.PlainYear.{PlainYear}
 use Rattle.changeover.specs.declared.MonthSpan.{MonthSpan}
 use Rattle.changeover.specs.declared.Spanned.the-variants as Spanned′
 use Rattle.changeover.specs.declared.PlainMonth.{PlainMonth}
@@ -30,14 +32,14 @@ use Rattle.inner.specs.declared.Spot as S
 use Rattle.inner.specs.Spots.{At, spot, at-number}
 use Rattle.changeover.specs.declared.Found.the-variants as Found′
 use Rattle.changeover.specs.declared.Read.the-variants as Read′
-use Rattle.changeover.specs.Spots.{YearSpan, MonthIn, monthSpan, SpansMonth, spans-month, ThereIn, Reads, reads-at, reads-none, ReadsBelow, below-at, below-none, Finds, finds-old, finds-new, finds-gap, finds-none}
+use Rattle.changeover.specs.Spots.{YearSpan, YearIn, begins-old, begins-new, MonthIn, monthSpan, SpansMonth, spans-month, ThereIn, Reads, reads-at, reads-none, NoneBelow, ReadsBelow, below-at, below-none, Finds, finds-old, finds-new, finds-gap, finds-none}
 
 -- ---- The day of a label
 module _ (leapAt : ℕ → Bool) (start : ℕ → ℕ) (y m d : ℕ) {b : Bool} {t : ℕ} (h : HeldYear (heldYear y)) (e : b ≡ leapAt (heldYear y)) (f : t ≡ start (heldYear y)) where
   read-there : ThereIn b m d → There leapAt (heldYear y) m d
   read-there v = (v .0, v .1, v .2, subst (λ (b : Bool). d ≤ monthLength b m) e (v .3))
 
-  read-at : {o : ℕ} → ThereIn b m d → daysBefore b m + d ≡ o → At leapAt start (t + o - 1) (heldYear y) m d o
+  pub read-at : {o : ℕ} → ThereIn b m d → daysBefore b m + d ≡ o → At leapAt start (t + o - 1) (heldYear y) m d o
   read-at {o} v q = record {
     held = h;
     there = read-there v;
@@ -112,6 +114,53 @@ year-span-is r y {a} {b} {l} {n} h e f g k p q = record {
     room : (j g : ℕ) → j < top → g < top → firstDay r j g < top
     room j g u v = first-cases r j g (λ x e. omega arith) (λ x z e. omega arith) (λ x z e. omega arith)
 
+days : (s n : ℕ) {a b : ℕ} → a ≡ s → b ≡ s + n → b - a ≡ n
+days s n e f = omega arith
+
+-- ---- A year in the reckoning in which it begins
+pub year-old : {r y t : ℕ} {b : Bool} → t ≡ J.start y → b ≡ J.leapAt y → t < r → YearIn r y (record { first = t; leap = b; whole = ltb (t + 366) r })
+year-old {r} e f h = rw (e, f) (begins-old (subst (λ (k : ℕ). k < r) e h))
+
+pub year-new : {r y t u : ℕ} {b : Bool} → t ≡ J.start y → u ≡ G.start y → b ≡ G.leapAt y → r ≤ t → YearIn r y (record { first = u; leap = b; whole = leb r u })
+year-new {r} e g f h = rw (g, f) (begins-new (subst (λ (k : ℕ). r ≤ k) e h))
+
+pub year-in-room : {r y : ℕ} {p : PlainYear} → HeldYear y → YearIn r y p → p .first < 2_000_000_000_000
+year-in-room h (begins-old g) = omega (arith, h .to)
+year-in-room h (begins-new g) = omega (arith, h .to)
+
+-- a year that is wholly in one, with its first day there and whether it is leap there
+pub data Wholly (r y : ℕ) : ℕ → Bool → Type 0 where
+  wholly-old : J.start y + 366 < r → Wholly r y (J.start y) (J.leapAt y)
+  wholly-new : r ≤ J.start y → r ≤ G.start y → Wholly r y (G.start y) (G.leapAt y)
+
+pub year-wholly : {r y : ℕ} {p : PlainYear} → YearIn r y p → p .whole ≡ true → Wholly r y (p .first) (p .leap)
+year-wholly {r} {y} (begins-old g) e = wholly-old (ltb→lt (J.start y + 366) r (subst T (sym e) tt))
+year-wholly {r} {y} (begins-new g) e = wholly-new g (leb→le r (G.start y) (subst T (sym e) tt))
+
+-- what its reckoning does not have there is nowhere in the other one
+pub wholly-none : {r : ℕ} (y : ℕ) {t m d : ℕ} {b : Bool} → Wholly r (heldYear y) t b → ¬ ThereIn b m d → (¬ There G.leapAt (heldYear y) m d) × NoneBelow r y m d
+wholly-none y {m = m} {d} (wholly-old g) n = (λ v. n (there-too (heldYear y) m d v), λ v. absurd (n v))
+wholly-none {r} y {m = m} {d} (wholly-new g h) n = (n, λ v. late (J.start (heldYear y)) (daysBefore (J.leapAt (heldYear y)) m) g (v .2))
+  where
+    late : (s b : ℕ) → r ≤ s → 1 ≤ d → r ≤ s + b + d - 1
+    late s b g h = omega arith
+
+-- it has as many days as in its reckoning
+pub wholly-days : {r : ℕ} (y : ℕ) {t : ℕ} {b : Bool} → Wholly r y t b → yearFirst r (y + 1) - yearFirst r y ≡ yearLength b
+wholly-days {r} y (wholly-old g) = days (J.start y) (yearLength (J.leapAt y)) (first-julian r (J.start y) (G.start y) (omega arith))
+    (first-julian r (J.start (y + 1)) (G.start (y + 1)) (omega (arith, next, year-most (J.leapAt y))) ∙ next)
+  where
+    next : J.start (y + 1) ≡ J.start y + yearLength (J.leapAt y)
+    next = ap J.start (add-one y) ∙ J.starts .start-next y
+wholly-days {r} y (wholly-new g h) = days (G.start y) (yearLength (G.leapAt y)) (first-gregorian r (J.start y) (G.start y) g h)
+    (first-gregorian r (J.start (y + 1)) (G.start (y + 1)) (later (J.start y) (yearLength (J.leapAt y)) (ap J.start (add-one y) ∙ J.starts .start-next y) g) (later (G.start y) (yearLength (G.leapAt y)) next h) ∙ next)
+  where
+    next : G.start (y + 1) ≡ G.start y + yearLength (G.leapAt y)
+    next = ap G.start (add-one y) ∙ G.starts .start-next y
+
+    later : (s n : ℕ) {k : ℕ} → k ≡ s + n → r ≤ s → r ≤ k
+    later s n e h = omega arith
+
 -- ---- A reading from the ordinal of a month and a day
 pub ordinal-some : {leap : Bool} {m d o : ℕ} → OrdinalOf leap m d (DayOrdinal′.At o) → 1 ≤ o
 ordinal-some (ordinal p) = p .from
@@ -124,8 +173,11 @@ ordinal-sum {leap} {m} {d} (ordinal p) =
 pub reading-at : {leap : Bool} {t y m d o : ℕ} → OrdinalOf leap m d (DayOrdinal′.At o) → Reads leap t y m d (Read′.At (spot (t + o - 1) y o m d))
 reading-at p = let (v, e) = ordinal-sum p in reads-at v e
 
+pub ordinal-none : {leap : Bool} {m d : ℕ} → OrdinalOf leap m d DayOrdinal′.Nothing → ¬ ThereIn leap m d
+ordinal-none {leap} {m} {d} (no-ordinal n) v = n (daysBefore leap m + d) (in-year-month leap m d (v .0, v .1) (v .2) (v .3))
+
 pub reading-none : {leap : Bool} {t y m d : ℕ} → OrdinalOf leap m d DayOrdinal′.Nothing → Reads leap t y m d Read′.Nothing
-reading-none {leap} {m = m} {d} (no-ordinal n) = reads-none (λ v. n (daysBefore leap m + d) (in-year-month leap m d (v .0, v .1) (v .2) (v .3)))
+reading-none n = reads-none (ordinal-none n)
 
 -- ---- The days of a month
 pub month-has-first : {leap : Bool} {m : ℕ} → Month m → OrdinalOf leap m 1 DayOrdinal′.Nothing → ⊥

@@ -8,14 +8,24 @@ use Rattle.days.specs.Julian as J
 use Rattle.days.specs.Gregorian as G
 use Rattle.days.specs.Numbers.{number}
 use Rattle.inner.specs.Natural.{heldYear}
+use Rattle.changeover.specs.declared.PlainYear.{PlainYear}
 use Rattle.changeover.specs.declared.Spanned.{Spanned}
 use Rattle.changeover.specs.declared.Found.{Found}
 use Rattle.changeover.specs.declared.Found.the-variants as Found′
 use Rattle.inner.specs.Spots.{At, spot, at-number}
-use Rattle.changeover.specs.Spots.{YearSpan, SpansMonth, spans-month, no-month, NoneBelow, Finds, finds-old, finds-new, finds-gap, finds-none}
+use Rattle.changeover.specs.Spots.{YearSpan, YearIn, begins-old, begins-new, SpansMonth, spans-month, no-month, NoneBelow, Finds, finds-old, finds-new, finds-gap, finds-none}
 
 pub year-span-one : (r y : ℕ) {a b i j : ℕ} → YearSpan r y a b → YearSpan r y i j → (a ≡ i) × (b ≡ j)
 year-span-one r y s t = (s .first-is ∙ sym (t .first-is), s .past-is ∙ sym (t .past-is))
+
+not-both : {r : ℕ} (k : ℕ) → k < r → r ≤ k → ⊥
+not-both k g h = omega arith
+
+pub year-in-one : (r y : ℕ) (p q : PlainYear) → YearIn r y p → YearIn r y q → p ≡ q
+year-in-one r y p q (begins-old g) (begins-old h) = refl
+year-in-one r y p q (begins-old g) (begins-new h) = absurd (not-both (J.start y) g h)
+year-in-one r y p q (begins-new g) (begins-old h) = absurd (not-both (J.start y) h g)
+year-in-one r y p q (begins-new g) (begins-new h) = refl
 
 pub spans-month-one : (r y m : ℕ) (a b : Spanned) → SpansMonth r y m a → SpansMonth r y m b → a ≡ b
 spans-month-one r y m a b (spans-month v) (spans-month w) = refl

@@ -3,6 +3,7 @@
 use mathlib.Core.Path.{_≡_}
 use mathlib.Core.Bool.{Bool}
 use Prim.Native.Nat.{ℕ, _+_, _-_, _≤_, _<_}
+use lib.Dec.{ltb, leb}
 use lib.IntN.{pos}
 use Rattle.refusals.specs.Refusals.{refusal}
 use Rattle.days.specs.DayByDay.{monthLength, Month}
@@ -12,6 +13,7 @@ use Rattle.days.specs.Numbers.{There, number, daysBefore}
 use Rattle.days.specs.Runs.{top, yearFirst, gregorianMonth, monthFirst, monthPast}
 use Rattle.inner.specs.Natural.{heldYear}
 use Rattle.inner.specs.Spots.{At, spot}
+use Rattle.changeover.specs.declared.PlainYear.{PlainYear}
 use Rattle.changeover.specs.declared.MonthSpan.{MonthSpan}
 use Rattle.changeover.specs.declared.Spanned.{Spanned}
 use Rattle.changeover.specs.declared.Spanned.the-variants as Spanned′
@@ -27,6 +29,11 @@ pub record YearSpan (r y a b : ℕ) : Type 0 where
   pub past-is : b ≡ yearFirst r (y + 1)
   pub first-room : a < top
   pub past-room : b < top
+
+-- a held year in the reckoning in which it begins: its first day, whether it is leap, and whether it is wholly in that reckoning
+pub data YearIn (r y : ℕ) : PlainYear → Type 0 where
+  begins-old : J.start y < r → YearIn r y (record { first = J.start y; leap = J.leapAt y; whole = ltb (J.start y + 366) r })
+  begins-new : r ≤ J.start y → YearIn r y (record { first = G.start y; leap = G.leapAt y; whole = leb r (G.start y) })
 
 -- a month of a year that starts on a held day, and is leap or not
 pub record MonthIn (leap : Bool) (start m : ℕ) (p : PlainMonth) : Type 0 where

@@ -6,7 +6,7 @@ ghost use Prim.Native.Nat.{_<_};
 ghost use Rattle.days.specs.Runs.{firstDay};
 ghost use Rattle.days.specs.DayByDay.{Month};
 ghost use Rattle.inner.specs.Natural.{heldYear};
-ghost use Rattle.changeover.specs.Spots.{Reads, ReadsBelow, Finds, YearSpan, MonthIn, SpansMonth};
+ghost use Rattle.changeover.specs.Spots.{Reads, ReadsBelow, Finds, YearSpan, YearIn, MonthIn, SpansMonth};
 use inner::Spot;
 use monthdays::DayOrdinal;
 use refusals::Refusal;
@@ -43,6 +43,33 @@ pub fn year_span(switch: u64, year: u32) -> Span
     Span {
         first: first_day(switch, julian, gregorian),
         past: first_day(switch, julian + julian_days, gregorian + gregorian_days),
+    }
+}
+
+// A year in the reckoning in which it begins: its first day, whether it is leap, and whether it is wholly in that reckoning: 366 days from the
+// first on, and the day after them, are before the switch, or the first one is not.
+pub struct PlainYear {
+    pub first: u64,
+    pub leap: bool,
+    pub whole: bool,
+}
+
+pub fn year_in(switch: u64, year: u32) -> PlainYear
+    ensures { λ p. ⌜ YearIn switch (heldYear year) p ⌝ }
+{
+    let old = inner::julian_start(year);
+    if old < switch {
+        return PlainYear {
+            first: old,
+            leap: inner::is_julian_leap(year),
+            whole: old + 366 < switch,
+        };
+    }
+    let new = inner::gregorian_start(year);
+    PlainYear {
+        first: new,
+        leap: inner::is_gregorian_leap(year),
+        whole: switch <= new,
     }
 }
 

@@ -16,7 +16,7 @@ use Rattle.calendar.specs.declared.Calendar.{Calendar}
 use Rattle.calendar.specs.declared.Date.{Date}
 use Rattle.calendar.specs.declared.Dated.{Dated}
 use Rattle.calendar.specs.declared.Dated.the-variants as Dated′
-use Rattle.calendar.specs.Calendars.{timeline, labels, Accepted, IsRecordIn, IsRecord, Genuine}
+use Rattle.calendar.specs.Calendars.{timeline, Accepted, IsRecordIn, IsRecord, Genuine}
 use Rattle.calendar.specs.Rows.{One, passes, passed, unless-one}
 use Rattle.calendar.specs.Promise.{YmdIn, OrdinalIn}
 use Rattle.calendar.specs.One.{record-one, ymd-in-one, ordinal-in-one}

@@ -5,7 +5,7 @@ use mathlib.Core.Logic.{_⊎_, inl, inr, ⊎-elim}
 use Prim.Native.Nat.{ℕ, zero, suc, _+_, _*_, _≤_, _<_}
 use native.Mathlib.Omega.{arith}
 use lib.IntN.{ℤ, pos, negsuc, predℤ, negℤ, _+ℤ_, _-ℤ_, +ℤ-idr, +ℤ-predℤ, -ℤ-one}
-use lib.Signed.{_<ℤ_, _≤ℤ_, <ℤ-irrefl}
+use lib.Signed.{_<ℤ_, <ℤ-irrefl}
 use Rattle.whole.specs.Integers.{lt-or-ge, lt-le, antisym, back-lt, back-le}
 use Rattle.whole.specs.Tests as N
 use Rattle.days.specs.DayByDay.{Label, _≺_, by-year, by-month, by-day, Timeline, labelsIn, Rising, Rises, OfMonth, Place, Ordinal, DayOrdinal}
