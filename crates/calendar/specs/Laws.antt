@@ -47,7 +47,7 @@ use Rattle.calendar.specs.declared.Usual.the-variants as Usual′
 use Rattle.inner.specs.declared.Spot as S
 use Rattle.inner.specs.Spots.{At, spot, at-number, at-from, at-few}
 use Rattle.changeover.specs.declared.Found.the-variants as Found′
-use Rattle.changeover.specs.Spots.{YearSpan, Finds, finds-old, finds-new, finds-gap, finds-none}
+use Rattle.changeover.specs.Spots.{YearSpan, ThereIn, Finds, finds-old, finds-new, finds-gap, finds-none}
 use Rattle.changeover.specs.Laws.{starts-close, Wholly, wholly-old, wholly-new, wholly-none, wholly-days, ordinal-sum, ordinal-none, read-at}
 use Rattle.refusals.specs.declared.Refusal.{Refusal}
 use Rattle.ways.specs.declared.Neighbour.the-variants as Neighbour′
@@ -489,9 +489,12 @@ one s o h = omega arith
 
 -- by a month and a day of it, and by an ordinal
 module _ (y : ℕ) {r : ℕ} (h : HeldYear (heldYear y)) where
+  pub whole-there : {t : ℕ} {b : Bool} {m d o : ℕ} → Wholly r (heldYear y) t b → ThereIn b m d → daysBefore b m + d ≡ o → OnSpot r (spot (t + o - 1) y o m d) × Plain r (spot (t + o - 1) y o m d)
+  whole-there {m = m} {d} (wholly-old g) v e = in-old g (read-at J.leapAt J.start y m d h refl refl v e)
+  whole-there {m = m} {d} (wholly-new f g) v e = in-new g (read-at G.leapAt G.start y m d h refl refl v e)
+
   pub whole-label : {t : ℕ} {b : Bool} {m d o : ℕ} → Wholly r (heldYear y) t b → OrdinalOf b m d (DayOrdinal′.At o) → OnSpot r (spot (t + o - 1) y o m d) × Plain r (spot (t + o - 1) y o m d)
-  whole-label {m = m} {d} (wholly-old g) p = let (v, e) = ordinal-sum p in in-old g (read-at J.leapAt J.start y m d h refl refl v e)
-  whole-label {m = m} {d} (wholly-new f g) p = let (v, e) = ordinal-sum p in in-new g (read-at G.leapAt G.start y m d h refl refl v e)
+  whole-label w p = let (v, e) = ordinal-sum p in whole-there w v e
 
   pub whole-ordinal : {t : ℕ} {b : Bool} {o : ℕ} {s : S.Spot} → Wholly r (heldYear y) t b → 1 ≤ o → o ≤ yearLength b → SpotAt (t + o - 1) y o b s → OnSpot r s × Plain r s
   whole-ordinal {o = o} (wholly-old g) from to q = subst (λ (s : S.Spot). OnSpot r s × Plain r s) (sym (q .is))

@@ -9,8 +9,10 @@ ghost use mathlib.Core.Bool.{not};
 ghost use Prim.Native.Nat.{_-_, _≤_};
 ghost use Rattle.calendar.specs.Calendars.{isReforming, styleIs};
 ghost use Rattle.calendar.specs.Promise.{refused, refusedReformation, Reforms, AtJdn, AtYmd, AtOrdinal, Next, ConvertsTo, IsGenuine, TellsCalendar, TellsDate, CountsDate, ReformationOf, reformDay, LastJulian, FirstGregorian};
+ghost use Rattle.calendar.specs.InMonth.{NextInMonth, IsUsual, IsOn, Movable, movedBy, OneOn, oneOn};
 ghost use Rattle.calendar.specs.Natural.{SwitchIs, ReformDateOf, fieldsOf, JulianStyleIs};
 use fields::Fields;
+use monthdays::DayOrdinal;
 use reformation::Judgement;
 pub use refusals::Refusal;
 pub use refusals::refusal_of;
@@ -82,6 +84,12 @@ pub enum ReformDate {
     Date(Date),
     Never,
     Refused(Refusal),
+}
+
+// The next date of a month, or nothing yet.
+pub enum Near {
+    Date(Date),
+    Other,
 }
 
 // ---- Where a calendar goes over
@@ -345,14 +353,104 @@ impl Date {
     pub fn succ(self) -> Dated
         ensures { λ a. ⌜ Next self (sucℤ (self .jdn)) a ⌝ }
     {
-        beside(self, Kind::Later)
+        match next_in_month(self, true) {
+            Near::Date(date) => Dated::Date(date),
+            Near::Other => beside(self, Kind::Later),
+        }
     }
 
     pub fn pred(self) -> Dated
         ensures { λ a. ⌜ Next self (predℤ (self .jdn)) a ⌝ }
     {
-        beside(self, Kind::Earlier)
+        match next_in_month(self, false) {
+            Near::Date(date) => Dated::Date(date),
+            Near::Other => beside(self, Kind::Earlier),
+        }
     }
+}
+
+// ---- The next day of a month
+
+// The date of the next day, or of the day before, where it is found from the date alone: the date is genuine, its year is wholly in one
+// reckoning, and its day is none with which a month can end or begin.
+pub fn next_in_month(date: Date, later: bool) -> Near
+    ensures { λ n. ⌜ NextInMonth later date n ⌝ }
+{
+    // The two ways are written apart: each is then in line with its own numbers.
+    if later {
+        if ways::stays(true, date.day, date.jdn) {
+            if is_usual(date) {
+                return Near::Date(moved(date, true));
+            }
+        }
+        return Near::Other;
+    }
+    if ways::stays(false, date.day, date.jdn) {
+        if is_usual(date) {
+            return Near::Date(moved(date, false));
+        }
+    }
+    Near::Other
+}
+
+// Whether a date is genuine and its year wholly in one reckoning.
+fn is_usual(date: Date) -> bool
+    ensures { λ b. ⌜ IsUsual date b ⌝ }
+{
+    let calendar = date.calendar;
+    match switch_of(calendar) {
+        Switch::MadeUp => false,
+        Switch::At(switch) => {
+            let at = changeover::year_in(switch, raised(date.year));
+            if at.whole {
+                return match monthdays::md2ordinal(at.leap, date.month, date.day) {
+                    DayOrdinal::Nothing => false,
+                    DayOrdinal::At(ordinal) => is_on(date, at.first + ordinal as u64, ordinal),
+                };
+            }
+            false
+        }
+    }
+}
+
+// Whether a date has this ordinal, the day ordinal that its day has, and the day number that is held before `past`.
+fn is_on(date: Date, past: u64, ordinal: u32) -> bool
+    ensures { λ b. ⌜ IsOn date past ordinal b ⌝ }
+{
+    if date.ordinal != ordinal {
+        return false;
+    }
+    if date.day_ordinal != date.day {
+        return false;
+    }
+    raised(date.jdn) as u64 + inner::LEAST_DAY + 1 == past
+}
+
+// The record with its day one further.
+fn moved(date: Date, later: bool) -> Date
+    requires { ⌜ Movable later date ⌝ }
+    ensures { λ d. ⌜ d ≡ movedBy later date ⌝ }
+{
+    let calendar = date.calendar;
+    Date {
+        calendar: calendar,
+        year: date.year,
+        ordinal: one_on(later, date.ordinal),
+        month: date.month,
+        day: one_on(later, date.day),
+        day_ordinal: one_on(later, date.day_ordinal),
+        jdn: lowered(one_on(later, raised(date.jdn))),
+    }
+}
+
+fn one_on(later: bool, n: u32) -> u32
+    requires { ⌜ OneOn later n ⌝ }
+    ensures { λ r. ⌜ r ≡ oneOn later n ⌝ }
+{
+    if later {
+        return n + 1;
+    }
+    n - 1
 }
 
 // The date of the day that lies ahead of a date on a way.

@@ -35,6 +35,10 @@ pub month-some : (b : Bool) (m : ℕ) → 1 ≤ m → m ≤ 12 → 1 ≤ monthLe
 unfolding monthLength
 month-some b m h k = leb→le 1 (monthLength b m) (month-test (leb 1) (elim [ true ↦ tt | false ↦ tt ]) b m h k)
 
+pub month-least : (b : Bool) (m : ℕ) → 1 ≤ m → m ≤ 12 → 28 ≤ monthLength b m
+unfolding monthLength
+month-least b m h k = leb→le 28 (monthLength b m) (month-test (leb 28) (elim [ true ↦ tt | false ↦ tt ]) b m h k)
+
 pub month-most : (b : Bool) (m : ℕ) → 1 ≤ m → m ≤ 12 → monthLength b m ≤ 31
 unfolding monthLength
 month-most b m h k = leb→le (monthLength b m) 31 (month-test (λ n. leb n 31) (elim [ true ↦ tt | false ↦ tt ]) b m h k)

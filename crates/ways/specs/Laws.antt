@@ -15,7 +15,7 @@ use Rattle.days.specs.Ends.{suc-is, pred-is, suc-far, pred-far, raised-fits}
 use Rattle.ways.specs.declared.Kind.{Kind}
 use Rattle.ways.specs.declared.Kind.the-variants.{Later, Earlier, AndLater, AndEarlier}
 use Rattle.ways.specs.declared.Step.the-variants as Step′
-use Rattle.ways.specs.Ways.{goesLater, toward, givesHeld, gives, EndedAt, NextStep, made-up, goes}
+use Rattle.ways.specs.Ways.{goesLater, toward, beside, Inside, IsStaying, givesHeld, gives, EndedAt, NextStep, made-up, goes}
 
 -- ---- The kinds of walkers
 pub toward-later : (k : Kind) (n : ℤ) → goesLater k ≡ true → toward k n ≡ sucℤ n
@@ -54,6 +54,12 @@ last-down {n} x h e = ⊎-elim
     (λ t. subst (EndedAt (predℤ n)) (sym t) (pred-far x e (eqb-true x 0 t)))
     (λ f. subst (EndedAt (predℤ n)) (sym f) (raised-fits (x - 1) (omega arith) (pred-is x (omega (arith, eqb-false x 0 f)) e)))
     (true-or-false (eqb x 0))
+
+-- ---- The next day of a month
+-- whether a day of 32 bits lies ahead is told by the number that is not the last
+pub stays-by : (l : Bool) (d : ℕ) (n : ℤ) (b : Bool) → Inside l d → EndedAt (beside l n) b → IsStaying l d n (not b)
+stays-by l d n true h e = λ p. e (p .1)
+stays-by l d n false h e = (h, e)
 
 -- ---- The room for the day ahead
 pub room-up : {n : ℤ} (x : ℕ) → unbias (2 ^ 31) x ≡ n → x < 2 ^ 32 → Is32Bit (sucℤ n) → x + 1 < 2 ^ 32

@@ -1,6 +1,7 @@
 -- The ways of walkers on whole numbers: which day lies ahead, which is given next, which is held then, and when a walker is ended.
 -- Assumes nothing.
 use mathlib.Core.Bool.{Bool, true, false}
+use Prim.Native.Nat.{ℕ, _≤_}
 use lib.IntN.{ℤ, sucℤ, predℤ}
 use Rattle.days.specs.DayByDay.{Is32Bit}
 use Rattle.ways.specs.declared.Neighbour.{Neighbour}
@@ -23,6 +24,21 @@ toward Later n = sucℤ n
 toward Earlier n = predℤ n
 toward AndLater n = sucℤ n
 toward AndEarlier n = predℤ n
+
+-- the day next to day n, later or earlier
+abbrev pub beside : Bool → ℤ → ℤ
+beside true n = sucℤ n
+beside false n = predℤ n
+
+-- day d of a month has a next one, or one before it, in every month
+abbrev pub Inside : Bool → ℕ → Type 0
+Inside true d = d ≤ 27
+Inside false d = 2 ≤ d
+
+-- whether it has, and the day next to day n is one of 32 bits
+abbrev pub IsStaying : Bool → ℕ → ℤ → Bool → Type 0
+IsStaying l d n true = Inside l d × Is32Bit (beside l n)
+IsStaying l d n false = ¬ (Inside l d × Is32Bit (beside l n))
 
 -- day n, where 32 bits hold it
 pub data IsNeighbour (n : ℤ) : Neighbour → Type 0 where

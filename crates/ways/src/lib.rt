@@ -3,7 +3,7 @@
 
 ghost use mathlib.Core.Path.{_≡_};
 ghost use Rattle.days.specs.DayByDay.{Is32Bit};
-ghost use Rattle.ways.specs.Ways.{goesLater, toward, IsNeighbour, givesHeld, gives, EndedAt, NextStep};
+ghost use Rattle.ways.specs.Ways.{goesLater, toward, IsNeighbour, givesHeld, gives, EndedAt, IsStaying, NextStep};
 use whole::lowered;
 use whole::raised;
 
@@ -26,7 +26,7 @@ pub enum Step {
 
 // ---- The kinds of walkers
 
-fn goes_later(kind: Kind) -> bool
+pub fn goes_later(kind: Kind) -> bool
     ensures { λ b. ⌜ b ≡ goesLater kind ⌝ }
 {
     match kind {
@@ -37,7 +37,7 @@ fn goes_later(kind: Kind) -> bool
     }
 }
 
-fn gives_held(kind: Kind) -> bool
+pub fn gives_held(kind: Kind) -> bool
     ensures { λ b. ⌜ b ≡ givesHeld kind ⌝ }
 {
     match kind {
@@ -51,7 +51,7 @@ fn gives_held(kind: Kind) -> bool
 // ---- The day ahead
 
 // Whether no day lies ahead.
-fn is_last(kind: Kind, jdn: i32) -> bool
+pub fn is_last(kind: Kind, jdn: i32) -> bool
     ensures { λ b. ⌜ EndedAt (toward kind jdn) b ⌝ }
 {
     if goes_later(kind) {
@@ -84,6 +84,24 @@ pub fn day_ahead(kind: Kind, jdn: i32) -> Neighbour
     }
     let next = ahead(kind, jdn);
     Neighbour::Day(next)
+}
+
+// ---- The next day of a month
+
+// Whether the day next to a day, later or earlier, is the next one of its month whatever the length of the month, and one of 32 bits.
+pub fn stays(later: bool, day: u32, jdn: i32) -> bool
+    ensures { λ b. ⌜ IsStaying later day jdn b ⌝ }
+{
+    if later {
+        if 27 < day {
+            return false;
+        }
+        return raised(jdn) != 4_294_967_295;
+    }
+    if day < 2 {
+        return false;
+    }
+    raised(jdn) != 0
 }
 
 // ---- Making a walker
