@@ -58,7 +58,8 @@ pub record InMonth (l : Bool) (d : Date) : Type 0 where
   pub genuine : Genuine d
   pub whole-year : WholeYear d
   pub inside : Inside l (d .day)
-  pub fits : Is32Bit (beside l (d .jdn))
+  pub here-fits : Is32Bit (d .jdn)
+  pub next-fits : Is32Bit (beside l (d .jdn))
 
 -- one further, or one back
 abbrev pub oneOn : Bool → ℕ → ℕ
@@ -228,15 +229,18 @@ pub usual-movable : (l : Bool) {d : Date} → Usual d → Inside l (d .day) → 
 usual-movable true u i f = (omega (arith, u .few), omega arith, omega (arith, u .day-ordinal-is), f)
 usual-movable false u i f = (u .some, omega arith, omega (arith, u .day-ordinal-is), f)
 
-pub near-found : (l : Bool) {d n : Date} → Usual d → Inside l (d .day) → Is32Bit (beside l (d .jdn)) → n ≡ movedBy l d → NextInMonth l d (Near′.Date n)
-near-found l {d} u i f e = subst (λ (n : Date). NextInMonth l d (Near′.Date n)) (sym e)
-    (in-month (record { genuine = u .genuine; whole-year = u .whole-year; inside = i; fits = f }) (passes (u .genuine) (passes f (record-of (u .next l i)))))
+pub near-found : (l : Bool) {d n : Date} → Usual d → Is32Bit (d .jdn) → Inside l (d .day) → Is32Bit (beside l (d .jdn)) → n ≡ movedBy l d → NextInMonth l d (Near′.Date n)
+near-found l {d} u h i f e = subst (λ (n : Date). NextInMonth l d (Near′.Date n)) (sym e)
+    (in-month (record { genuine = u .genuine; whole-year = u .whole-year; inside = i; here-fits = h; next-fits = f }) (passes (u .genuine) (passes f (record-of (u .next l i)))))
 
 pub not-staying : (l : Bool) {d : Date} → ¬ (Inside l (d .day) × Is32Bit (beside l (d .jdn))) → NextInMonth l d Near′.Other
-not-staying l n = elsewhere (λ i. n (i .inside, i .fits))
+not-staying l n = elsewhere (λ i. n (i .inside, i .next-fits))
 
 pub not-usual : (l : Bool) {d : Date} → ¬ (Genuine d × WholeYear d) → NextInMonth l d Near′.Other
 not-usual l n = elsewhere (λ i. n (i .genuine, i .whole-year))
+
+pub near-fits : (l : Bool) {d n : Date} → NextInMonth l d (Near′.Date n) → Is32Bit (d .jdn)
+near-fits l (in-month i p) = i .here-fits
 
 -- it is that of succ and pred
 pub near-next : (l : Bool) {d n : Date} → NextInMonth l d (Near′.Date n) → Next d (beside l (d .jdn)) (Dated′.Date n)

@@ -8,6 +8,7 @@ ghost use Rattle.walker.specs.Promise.{Makes, Steps, unmoved, moved};
 ghost use Rattle.walker.specs.Private.{Gave};
 use calendar::Date;
 use calendar::Dated;
+use calendar::Near;
 use calendar::Refusal;
 use calendar::refusal_of;
 pub use ways::Kind;
@@ -120,8 +121,42 @@ fn gave(kind: Kind, date: Date, given: i32, held: i32, ended: bool) -> Moved
     }
 }
 
-// One step, by value.
+// One step, by value. A date that has its next one in its month is seen to in line.
 pub fn stepped(walker: Walker) -> Moved
+    ensures { λ m. ⌜ Steps walker m ⌝ }
+{
+    if !walker.ended {
+        let kind = walker.kind;
+        let date = walker.date;
+        match calendar::next_in_month(date, ways::goes_later(kind)) {
+            Near::Other => {}
+            Near::Date(next) => {
+                if ways::gives_held(kind) {
+                    return Moved {
+                        answer: Dated::Date(date),
+                        walker: Walker {
+                            kind: kind,
+                            date: next,
+                            ended: false,
+                        },
+                    };
+                }
+                return Moved {
+                    answer: Dated::Date(next),
+                    walker: Walker {
+                        kind: kind,
+                        date: next,
+                        ended: ways::is_last(kind, next.jdn),
+                    },
+                };
+            }
+        }
+    }
+    any_step(walker)
+}
+
+// Any step, by the number of the day.
+fn any_step(walker: Walker) -> Moved
     ensures { λ m. ⌜ Steps walker m ⌝ }
 {
     let kind = walker.kind;

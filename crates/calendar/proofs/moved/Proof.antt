@@ -36,8 +36,14 @@ returns c =
     let r = l .before .before in
     let t = r .before in
     let a = t .before .before .before .before in
-    rw (toZ-ofZ (sfits-of (t .struct-told .given .1 .0 .1)), t .before .before .before .one-on .ensures, t .before .before .one-on2 .ensures, t .before .one-on3 .ensures, toZ-ofZ (sfits-of (l .lowered .ok)),
-    l .lowered .ensures ∙ ap (unbias (2 ^ 31)) (l .before .one-on4 .ensures) ∙ beside-is (a .args .later) (r .raised .result) (jdn-is r) (beside-room (a .args .later) (r .raised .result) (jdn-is r) (r .raised .ok) (a .pre .3))) refl
+    rw (
+      toZ-ofZ (sfits-of (t .struct-told .given .1 .0 .1)),
+      t .before .before .before .one-on .ensures,
+      t .before .before .one-on2 .ensures,
+      t .before .one-on3 .ensures,
+      toZ-ofZ (sfits-of (l .lowered .ok)),
+      l .lowered .ensures ∙ ap (unbias (2 ^ 31)) (l .before .one-on4 .ensures) ∙ beside-is (a .args .later) (r .raised .result) (jdn-is r) (beside-room (a .args .later) (r .raised .result) (jdn-is r) (r .raised .ok) (a .pre .3)),
+    ) refl
 
 pub moved-spec : {M : Type 1} → statement M
 moved-spec =

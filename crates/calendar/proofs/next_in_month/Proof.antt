@@ -12,11 +12,17 @@ use Rattle.calendar.proofs.next_in_month.Tie as tie
 staying : (c : tie.Then2) → Inside true (c .before .before .before .before .args .date .day) × Is32Bit (beside true (c .before .before .before .before .args .date .jdn))
 staying c = rw (toZ-ofZ (sfits-of (c .before .before .struct-told .given .1 .1 .1 .1 .1 .1 .0 .1)), c .if2 .taken) at (c .before .stays .ensures)
 
+fits : (c : tie.Then2) → Is32Bit (c .before .before .before .before .args .date .jdn)
+fits c = sfits-of (c .before .before .struct-told .given .1 .1 .1 .1 .1 .1 .0 .1)
+
 usual : (c : tie.Then3) → Usual (c .before .before .before .before .before .before .args .date)
 usual c = rw (c .if3 .taken) at (c .before .is-usual .ensures)
 
 staying2 : (c : tie.Then4) → Inside false (c .before .before .before .before .args .date .day) × Is32Bit (beside false (c .before .before .before .before .args .date .jdn))
 staying2 c = rw (toZ-ofZ (sfits-of (c .before .before .struct-told2 .given .1 .1 .1 .1 .1 .1 .0 .1)), c .if4 .taken) at (c .before .stays2 .ensures)
+
+fits2 : (c : tie.Then4) → Is32Bit (c .before .before .before .before .args .date .jdn)
+fits2 c = sfits-of (c .before .before .struct-told2 .given .1 .1 .1 .1 .1 .1 .0 .1)
 
 usual2 : (c : tie.Then5) → Usual (c .before .before .before .before .before .before .args .date)
 usual2 c = rw (c .if5 .taken) at (c .before .is-usual2 .ensures)
@@ -31,7 +37,7 @@ moved-requires : tie.Need-moved-requires
 moved-requires c κs = let (i, f) = staying (c .before .before) in usual-movable true (usual c) i f
 
 returns : tie.Need-returns
-returns c = let (i, f) = staying (c .before .before .before) in rw (c .before .before .before .before .before .before .if1 .taken) (near-found true (usual (c .before)) i f (c .moved .ensures))
+returns c = let (i, f) = staying (c .before .before .before) in rw (c .before .before .before .before .before .before .if1 .taken) (near-found true (usual (c .before)) (fits (c .before .before .before)) i f (c .moved .ensures))
 
 returns-2 : tie.Need-returns-2
 returns-2 c = rw (c .before .before .before .before .before .if1 .taken) (not-usual true (rw (c .if3 .left) at (c .before .is-usual .ensures)))
@@ -49,7 +55,7 @@ moved-requires-2 : tie.Need-moved-requires-2
 moved-requires-2 c κs = let (i, f) = staying2 (c .before .before) in usual-movable false (usual2 c) i f
 
 returns-4 : tie.Need-returns-4
-returns-4 c = let (i, f) = staying2 (c .before .before .before) in rw (c .before .before .before .before .before .before .if1 .left) (near-found false (usual2 (c .before)) i f (c .moved2 .ensures))
+returns-4 c = let (i, f) = staying2 (c .before .before .before) in rw (c .before .before .before .before .before .before .if1 .left) (near-found false (usual2 (c .before)) (fits2 (c .before .before .before)) i f (c .moved2 .ensures))
 
 returns-5 : tie.Need-returns-5
 returns-5 c = rw (c .before .before .before .before .before .if1 .left) (not-usual false (rw (c .if5 .left) at (c .before .is-usual2 .ensures)))

@@ -1,93 +1,67 @@
 -- `walker::stepped` meets its promise.
 -- Assumes nothing.
-use mathlib.Core.Path.{refl, subst}
-use Prim.Native.Nat.{_-_}
+use mathlib.Core.Path.{_≡_, sym, _∙_}
+use mathlib.Core.Bool.{false}
 use borrow.Author.Needs.{needs, sfits-of}
 use mir.Facts.{toZ-ofZ}
-use Rattle.calendar.specs.Calendars.{Genuine}
-use Rattle.calendar.specs.Promise.{IsGenuine}
-use Rattle.ways.specs.Ways.{NextStep}
-use Rattle.walker.specs.Laws.{date-made-up, flag-made-up, step-ended, step-gives}
+use Rattle.calendar.specs.InMonth.{NextInMonth}
+use Rattle.calendar.specs.declared.Near.the-variants as Near′
+use Rattle.ways.specs.Ways.{goesLater}
 use Rattle.walker.specs.declared.Walker.{Walker}
+use Rattle.walker.specs.Laws.{not-ended, gives-first, gives-next}
 use Rattle.walker.proofs.stepped.Statement.{statement}
 use Rattle.walker.proofs.stepped.Tie as tie
 
-abbrev on : tie.Then1 → Walker
-on c = c .before .before .before .args .walker
+abbrev on : tie.After-gives-held → Walker
+on c = c .before .before .before .before .before .before .before .before .before .args .walker
 
-genuine : (c : tie.Then1) → Genuine (on c .date)
-genuine c = subst (IsGenuine (on c .date)) (c .if1 .taken) (c .before .is-genuine .ensures)
+runs-on : (c : tie.After-gives-held) → on c .ended ≡ false
+runs-on c = not-ended (on c .ended) (c .before .before .before .before .before .before .before .if1 .taken)
 
--- the step, of the day that the walker holds
-told : (c : tie.After-next-step) → NextStep (on (c .before .before) .kind) (on (c .before .before) .date .jdn) (on (c .before .before) .ended) (c .next-step .result)
-told c = rw (toZ-ofZ (sfits-of (c .before .struct-told .given .1 .1 .1 .1 .1 .1 .0 .1))) at (c .next-step .ensures)
+near : (c : tie.After-gives-held) → NextInMonth (goesLater (on c .kind)) (on c .date) (Near′.Date (c .before .before .next .given .0 .0))
+near c = rw (c .before .before .next .given .1, c .before .before .before .before .before .goes-later .ensures) at (c .before .before .before .before .next-in-month .ensures)
 
-is-genuine-requires : tie.Need-is-genuine-requires
-is-genuine-requires c κs = search needs
+goes-later-requires : tie.Need-goes-later-requires
+goes-later-requires c κs = search needs
 
-next-step-requires : tie.Need-next-step-requires
-next-step-requires c κs = search needs
+next-in-month-requires : tie.Need-next-in-month-requires
+next-in-month-requires c κs = search needs
 
 enum-told : tie.Need-enum-told
 enum-told c = search needs
 
-refused-requires : tie.Need-refused-requires
-refused-requires c κs = search needs
+enum-known-next : tie.Need-enum-known-next
+enum-known-next c = search needs
 
-enum-told-2 : tie.Need-enum-told-2
-enum-told-2 c = search needs
-
-refused-requires-2 : tie.Need-refused-requires-2
-refused-requires-2 c κs = search needs
-
-enum-known-given : tie.Need-enum-known-given
-enum-known-given c = search needs
-
-gave-requires : tie.Need-gave-requires
-gave-requires c κs = genuine (c .before .before .before .before .before)
+gives-held-requires : tie.Need-gives-held-requires
+gives-held-requires c κs = search needs
 
 returns : tie.Need-returns
-returns c =
-    let s = c .before .before .before in
-    rw (c .refused .ensures) (flag-made-up (on (s .before .before)) refl (rw (c .before .enum-told .given .1) at (told s)))
+returns c = gives-first (on (c .before)) (runs-on (c .before)) (sym (c .before .gives-held .ensures) ∙ c .if2 .taken) (near (c .before))
+
+is-last-requires : tie.Need-is-last-requires
+is-last-requires c κs = search needs
 
 returns-2 : tie.Need-returns-2
-returns-2 c =
-    let s = c .before .before .before in
-    let a = s .before .before in
-    rw (c .refused2 .ensures) (step-ended (on a) (genuine a) refl (rw (c .before .enum-told2 .given .1) at (told s)))
+returns-2 c = let h = c .before .before .before in gives-next (on h) (runs-on h) (sym (h .gives-held .ensures) ∙ c .before .before .if2 .left) (rw (toZ-ofZ (sfits-of (c .before .struct-told .given .1 .1 .1 .1 .1 .1 .0 .1))) at (c .is-last .ensures)) (near h)
+
+any-step-requires : tie.Need-any-step-requires
+any-step-requires c κs = search needs
 
 returns-3 : tie.Need-returns-3
-returns-3 c =
-    let s = c .before .before .before .before in
-    let a = s .before .before in
-    let f = c .before .known-told .given in
-    let g = c .before .before .given .given .0 in
-    step-gives (on a) (genuine a) refl (rw (c .before .before .given .given .1) at (told s)) (rw (toZ-ofZ {z = g .0} (sfits-of (f .0 .1)), toZ-ofZ {z = g .1 .0} (sfits-of (f .1 .0 .1))) at (c .gave .ensures))
-
-refused-requires-3 : tie.Need-refused-requires-3
-refused-requires-3 c κs = search needs
-
-returns-4 : tie.Need-returns-4
-returns-4 c =
-    let a = c .before .before in
-    let w = a .before .before .args .walker in
-    rw (c .refused3 .ensures) (date-made-up w (subst (IsGenuine (w .date)) (c .before .if1 .left) (a .is-genuine .ensures)))
+returns-3 c = search needs
 
 pub stepped-spec : {M : Type 1} → statement M
 stepped-spec =
     tie.close
     (tie.spec
-    is-genuine-requires
-    next-step-requires
+    goes-later-requires
+    next-in-month-requires
     enum-told
-    refused-requires
-    enum-told-2
-    refused-requires-2
-    enum-known-given
-    gave-requires
+    enum-known-next
+    gives-held-requires
     returns
+    is-last-requires
     returns-2
-    returns-3
-    refused-requires-3
-    returns-4)
+    any-step-requires
+    returns-3)
