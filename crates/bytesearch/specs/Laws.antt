@@ -6,6 +6,7 @@ use mathlib.Core.List.{List, [], _∷_, _++_, append-assoc, append-nil}
 use native.Mathlib.Omega.{arith}
 use lib.ListN.{length, getD, drop, length-append, length-drop}
 use lib.Seq.{drop-cons}
+use lib.Bits.{bitOr, or-add-and, and-le-l, and-le-r}
 use Rattle.bytesearch.specs.Promise.{Without, UpTo}
 
 -- ---- the bytes from `from` to i go without b
@@ -122,3 +123,31 @@ eight-passed {b} {s} {from} {i} g f h e l = subst (Going b s from) (sum i) (four
 -- every place before r has eight bytes of n from there on
 abbrev pub Turns : ℕ → ℕ → Type 0
 Turns n r = (i : ℕ) → i < r → i + 8 ≤ n
+
+-- every place before r has sixteen bytes of n from there on
+abbrev pub Sixteens : ℕ → ℕ → Type 0
+Sixteens n r = (i : ℕ) → i < r → i + 16 ≤ n
+
+-- ---- answers that are 0 where a byte is not there, taken together
+
+or-left : (a b : ℕ) → bitOr a b ≡ 0 → a ≡ 0
+or-left a b e = omega (arith, e, or-add-and a b, and-le-r a b, and-le-l a b)
+
+or-right : (a b : ℕ) → bitOr a b ≡ 0 → b ≡ 0
+or-right a b e = omega (arith, e, or-add-and a b, and-le-l a b, and-le-r a b)
+
+pub or-none : (a b c d : ℕ) → bitOr (bitOr (bitOr a b) c) d ≡ 0 → (a ≡ 0) × (b ≡ 0) × (c ≡ 0) × (d ≡ 0)
+or-none a b c d e =
+    let l : bitOr (bitOr a b) c ≡ 0 = or-left (bitOr (bitOr a b) c) d e in
+    let m : bitOr a b ≡ 0 = or-left (bitOr a b) c l in
+    (or-left a b m, or-right a b m, or-right (bitOr a b) c l, or-right (bitOr (bitOr a b) c) d e)
+
+-- four times four bytes are passed
+pub fours-passed : {b : ℕ} {s : List ℕ} {at : ℕ} → Going b s at (at + 4) → Going b s (at + 4) (at + 4 + 4) → Going b s (at + 8) (at + 8 + 4) → Going b s (at + 12) (at + 12 + 4) → Going b s at (at + 16)
+fours-passed {b} {s} {at} f g h k = subst (Going b s at) (sum at 12 4 16 (omega arith)) (going-further (on 8 12 (omega arith) h (on 4 8 (omega arith) g f)) k)
+  where
+    sum : (i j k n : ℕ) → j + k ≡ n → i + j + k ≡ i + n
+    sum i j k n e = omega arith
+
+    on : (j n : ℕ) → j + 4 ≡ n → Going b s (at + j) (at + j + 4) → Going b s at (at + j) → Going b s at (at + n)
+    on j n e x y = subst (Going b s at) (sum at j 4 n e) (going-further y x)

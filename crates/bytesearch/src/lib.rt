@@ -3,7 +3,8 @@
 ghost use Prim.Native.Nat.{_+_, _<_, _≤_};
 ghost use lib.ListN.{length};
 ghost use Rattle.bytesearch.specs.Promise.{UpTo};
-ghost use Rattle.bytesearch.specs.Laws.{InFour, Turns};
+ghost use mathlib.Core.Path.{_≡_};
+ghost use Rattle.bytesearch.specs.Laws.{InFour, Turns, Going, Sixteens};
 
 // The place of the first `b` from `from` on, or of the end.
 fn next_to(s: &[u8], from: usize, b: u8) -> usize
@@ -49,9 +50,8 @@ fn turns_end(len: usize) -> usize
     len - 7
 }
 
-// The place of the first `b` from `from` on, or of the end; `from` itself where that lies past the end. Every byte of the input is looked at
-// here, and that is a good part of the listing's work, so eight of them are looked at in a turn.
-pub fn up_to(s: &[u8], from: usize, b: u8) -> usize
+// The place of the first `b` from `from` on, or of the end; `from` itself where that lies past the end. Eight bytes are looked at in a turn.
+pub fn near(s: &[u8], from: usize, b: u8) -> usize
     ensures { λ r. ⌜ UpTo b (now (s .entry)) from r ⌝ }
 {
     let end = turns_end(s.len());
@@ -68,4 +68,57 @@ pub fn up_to(s: &[u8], from: usize, b: u8) -> usize
         i += 8;
     }
     next_to(s, i, b)
+}
+
+// ---- sixteen bytes at once, for long texts
+
+// 0 where the byte is not `b`.
+fn one(x: u8, b: u8) -> u8
+    ensures { λ r. ⌜ (r ≡ 0 → x ≡ b → ⊥) ⌝ }
+{
+    if x == b {
+        return 1;
+    }
+    0
+}
+
+// 0 where `b` is not among the four bytes from `at` on.
+fn any_four(s: &[u8], at: usize, b: u8) -> u8
+    requires { ⌜ at + 4 ≤ length (now s) ⌝ }
+    ensures { λ r. ⌜ (r ≡ 0 → Going b (now (s .entry)) at (at + 4)) ⌝ }
+{
+    one(s[at], b) | one(s[at + 1], b) | one(s[at + 2], b) | one(s[at + 3], b)
+}
+
+// 0 where it is not among the sixteen. The compiler makes one comparison of them.
+fn any_sixteen(s: &[u8], at: usize, b: u8) -> u8
+    requires { ⌜ at + 16 ≤ length (now s) ⌝ }
+    ensures { λ r. ⌜ (r ≡ 0 → Going b (now (s .entry)) at (at + 16)) ⌝ }
+{
+    any_four(s, at, b) | any_four(s, at + 4, b) | any_four(s, at + 8, b) | any_four(s, at + 12, b)
+}
+
+// Every place before this one has sixteen bytes from there on.
+fn sixteens_end(len: usize) -> usize
+    ensures { λ r. ⌜ Sixteens len r ⌝ }
+{
+    if len < 15 {
+        return 0;
+    }
+    len - 15
+}
+
+// The same as `near`, for a place that may be far.
+pub fn up_to(s: &[u8], from: usize, b: u8) -> usize
+    ensures { λ r. ⌜ UpTo b (now (s .entry)) from r ⌝ }
+{
+    let end = sixteens_end(s.len());
+    let mut i = from;
+    while i < end {
+        if any_sixteen(s, i, b) != 0 {
+            return near(s, i, b);
+        }
+        i += 16;
+    }
+    near(s, i, b)
 }

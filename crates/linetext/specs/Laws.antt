@@ -1,6 +1,6 @@
 -- Numbers written one after another into a lent buffer, and a whole line of them.
 -- Assumes nothing.
-use Prim.Native.Nat.{ℕ, suc, _+_, _/_, _%_, _≤_, _<_, _^_}
+use Prim.Native.Nat.{ℕ, suc, _+_, _-_, _*_, _/_, _%_, _≤_, _<_, _^_}
 use mathlib.Core.Path.{_≡_, refl, sym, _∙_, ap, ap₂, subst}
 use mathlib.Core.Bool.{Bool, true, false}
 use mathlib.Core.List.{List, [], _∷_, _++_, append-assoc}
@@ -57,6 +57,32 @@ so-text {t = t} p h s = record { text = t; is = p; short = h; so = s }
 
 pub so-digit : (k n : ℕ) {b : List ℕ} {at : ℕ} {b₁ b₂ : List ℕ} {i j : ℕ} → at + suc k ≤ length b → So b at (digitsOf k (n / 10)) b₁ i → So b₁ i (digitsOf 1 n) b₂ j → So b at (digitsOf (suc k) n) b₂ j
 so-digit k n h s r = so-on s (digitsOf 1 n) (omega (arith, length-digits k (n / 10), length-digits 1 n)) r
+
+-- two digits of a number below 100, as a number of two bytes
+pub so-word : (n : ℕ) {b : List ℕ} {at : ℕ} {b₁ b₂ : List ℕ} {i j : ℕ} → n < 100 → at + 2 ≤ length b → So b at ((12336 + 256 * n - 2559 * (103 * n / 1024)) % 256 ∷ []) b₁ i → So b₁ i ((12336 + 256 * n - 2559 * (103 * n / 1024)) / 256 ∷ []) b₂ j → So b at (digitsOf 2 n) b₂ j
+so-word n {b} {at} {b₂ = b₂} {j = j} k h s r =
+    subst (λ (t : List ℕ). So b at t b₂ j) (ap₂ (λ (x y : ℕ). x ∷ (y ∷ [])) (tens n k) (ones n k)) (so-on s ((12336 + 256 * n - 2559 * (103 * n / 1024)) / 256 ∷ []) (omega arith) r)
+  where
+    tenth : (n : ℕ) → n < 100 → 103 * n / 1024 ≡ n / 10
+    tenth n k = omega arith
+
+    word : (n q : ℕ) → q ≡ n / 10 → 12336 + 256 * n - 2559 * q ≡ 12336 + n / 10 + 256 * (n % 10)
+    word n q e = omega arith
+
+    low : (x y : ℕ) → x < 10 → (12336 + x + 256 * y) % 256 ≡ 48 + x % 10
+    low x y h = omega arith
+
+    high : (x y : ℕ) → x < 10 → (12336 + x + 256 * y) / 256 ≡ 48 + y
+    high x y h = omega arith
+
+    is : (n : ℕ) → n < 100 → 12336 + 256 * n - 2559 * (103 * n / 1024) ≡ 12336 + n / 10 + 256 * (n % 10)
+    is n k = word n (103 * n / 1024) (tenth n k)
+
+    tens : (n : ℕ) → n < 100 → (12336 + 256 * n - 2559 * (103 * n / 1024)) % 256 ≡ 48 + n / 10 % 10
+    tens n k = ap (λ (w : ℕ). w % 256) (is n k) ∙ low (n / 10) (n % 10) (omega arith)
+
+    ones : (n : ℕ) → n < 100 → (12336 + 256 * n - 2559 * (103 * n / 1024)) / 256 ≡ 48 + n % 10
+    ones n k = ap (λ (w : ℕ). w / 256) (is n k) ∙ high (n / 10) (n % 10) (omega arith)
 
 -- the last two digits of a number are those of its rest at a division by 100, and the last four those at 10000
 last-two : (n : ℕ) → digitsOf 2 (n % 100) ≡ digitsOf 2 n

@@ -44,7 +44,7 @@ fn put_byte(out: &mut [u8], at: usize, b: u8) -> usize
     at + 1
 }
 
-// The last digit of n; the last two; and so on.
+// The last digit of n.
 fn put_digit(out: &mut [u8], at: usize, n: u64) -> usize
     requires { ⌜ at < length (now out) ⌝ }
     ensures { λ r. ⌜ So (now (out .entry)) at (digitsOf 1 n) (now (out .exit)) r ⌝ }
@@ -52,12 +52,15 @@ fn put_digit(out: &mut [u8], at: usize, n: u64) -> usize
     put_byte(out, at, (48 + n % 10) as u8)
 }
 
+// Two digits as a number of two bytes, which the compiler stores at once.
 fn put_two(out: &mut [u8], at: usize, n: u64) -> usize
-    requires { ⌜ at + 2 ≤ length (now out) ⌝ }
+    requires { ⌜ (at + 2 ≤ length (now out)) × (n < 100) ⌝ }
     ensures { λ r. ⌜ So (now (out .entry)) at (digitsOf 2 n) (now (out .exit)) r ⌝ }
 {
-    let next = put_digit(out, at, n / 10);
-    put_digit(out, next, n)
+    let tens = 103 * n / 1024;
+    let word = 12_336 + 256 * n - 2_559 * tens;
+    let next = put_byte(out, at, (word % 256) as u8);
+    put_byte(out, next, (word / 256) as u8)
 }
 
 fn put_three(out: &mut [u8], at: usize, n: u64) -> usize
@@ -69,7 +72,7 @@ fn put_three(out: &mut [u8], at: usize, n: u64) -> usize
 }
 
 fn put_four(out: &mut [u8], at: usize, n: u64) -> usize
-    requires { ⌜ at + 4 ≤ length (now out) ⌝ }
+    requires { ⌜ (at + 4 ≤ length (now out)) × (n < 10000) ⌝ }
     ensures { λ r. ⌜ So (now (out .entry)) at (digitsOf 4 n) (now (out .exit)) r ⌝ }
 {
     let next = put_two(out, at, n / 100);
@@ -165,6 +168,22 @@ fn put_whole(out: &mut [u8], at: usize, x: i64, after: u8) -> usize
     put_byte(out, next, after)
 }
 
+// Most years have at most four digits and no sign, and are written in line.
+fn put_year(out: &mut [u8], at: usize, x: i64, after: u8) -> usize
+    requires { ⌜ at + 22 ≤ length (now out) ⌝ }
+    ensures { λ r. ⌜ Column x after (now (out .entry)) at (now (out .exit)) r ⌝ }
+{
+    if whole::is_negative(x) {
+        return put_whole(out, at, x, after);
+    }
+    let n = whole::magnitude(x);
+    if n < 10_000 {
+        let next = put_small(out, at, n);
+        return put_byte(out, next, after);
+    }
+    put_whole(out, at, x, after)
+}
+
 // ---- a line of output, with its newline
 
 // The last four columns of a day.
@@ -183,7 +202,7 @@ fn put_row(out: &mut [u8], at: usize, row: Row) -> usize
     ensures { λ r. ⌜ LineOf (OfRow row) (now (out .entry)) at (now (out .exit)) r ⌝ }
 {
     let second = put_whole(out, at, row.jdn, b'\t');
-    let third = put_whole(out, second, row.year, b'\t');
+    let third = put_year(out, second, row.year, b'\t');
     put_place(out, third, row.ordinal, row.month, row.day, row.weekday)
 }
 

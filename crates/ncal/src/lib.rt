@@ -1,7 +1,7 @@
 // The calendars of the countries that `ncal` knows, and calendars by name.
 
 ghost use mathlib.Core.Path.{_≡_};
-ghost use Prim.Native.Nat.{_<_};
+ghost use Prim.Native.Nat.{_<_, _≤_};
 ghost use Rattle.ncal.specs.Promise.{NamesCalendar};
 ghost use Rattle.ncal.specs.Search.{calendarAt};
 use calendar::Calendar;
@@ -126,52 +126,103 @@ pub fn named(name: &[u8]) -> Reformed
     }
 }
 
-// The calendars of the names, in their order. An array is built anew where it is read, so these are short.
-const OF_FIVE_LETTERS: [Calendar; 4] = [CHINA, ITALY, JAPAN, SPAIN];
-
-const OF_SIX_TO_LATVIA: [Calendar; 5] = [Calendar::JULIAN, CANADA, FRANCE, GREECE, LATVIA];
-
-const OF_SIX_FROM_NORWAY: [Calendar; 5] = [NORWAY, POLAND, RUSSIA, SWEDEN, TURKEY];
-
-const OF_SEVEN_TO_FINLAND: [Calendar; 5] = [ALBANIA, AUSTRIA, BELGIUM, DENMARK, FINLAND];
-
-const OF_SEVEN_FROM_GERMANY: [Calendar; 4] = [GERMANY, HUNGARY, ICELAND, ROMANIA];
-
-const OF_EIGHT_LETTERS: [Calendar; 3] = [BULGARIA, PORTUGAL, SLOVENIA];
-
-const OF_NINE_LETTERS: [Calendar; 3] = [Calendar::GREGORIAN, AUSTRALIA, LITHUANIA];
-
-const OF_TEN_AND_ELEVEN: [Calendar; 4] = [LUXEMBOURG, YUGOSLAVIA, NETHERLANDS, SWITZERLAND];
-
-const OF_MORE_LETTERS: [Calendar; 3] = [UNITED_STATES, CZECH_REPUBLIC, UNITED_KINGDOM];
-
+// The calendars of the names, in their order. A `match` to constants is a table; an array would be built anew where it is read.
 fn calendar_at(k: usize) -> Calendar
     requires { ⌜ k < 36 ⌝ }
     ensures { λ c. ⌜ c ≡ calendarAt k ⌝ }
 {
-    if k < 4 {
-        return OF_FIVE_LETTERS[k];
-    }
-    if k < 9 {
-        return OF_SIX_TO_LATVIA[k - 4];
-    }
     if k < 14 {
-        return OF_SIX_FROM_NORWAY[k - 9];
-    }
-    if k < 19 {
-        return OF_SEVEN_TO_FINLAND[k - 14];
-    }
-    if k < 23 {
-        return OF_SEVEN_FROM_GERMANY[k - 19];
+        return of_five_or_six(k);
     }
     if k < 26 {
-        return OF_EIGHT_LETTERS[k - 23];
+        return of_seven_or_eight(k);
     }
+    of_nine_or_more(k)
+}
+
+// Five and six letters.
+fn of_five_or_six(k: usize) -> Calendar
+    requires { ⌜ k < 14 ⌝ }
+    ensures { λ c. ⌜ c ≡ calendarAt k ⌝ }
+{
+    if k < 4 {
+        return match k {
+            0 => CHINA,
+            1 => ITALY,
+            2 => JAPAN,
+            _ => SPAIN,
+        };
+    }
+    if k < 9 {
+        return match k {
+            4 => Calendar::JULIAN,
+            5 => CANADA,
+            6 => FRANCE,
+            7 => GREECE,
+            _ => LATVIA,
+        };
+    }
+    match k {
+        9 => NORWAY,
+        10 => POLAND,
+        11 => RUSSIA,
+        12 => SWEDEN,
+        _ => TURKEY,
+    }
+}
+
+// Seven and eight.
+fn of_seven_or_eight(k: usize) -> Calendar
+    requires { ⌜ (14 ≤ k) × (k < 26) ⌝ }
+    ensures { λ c. ⌜ c ≡ calendarAt k ⌝ }
+{
+    if k < 19 {
+        return match k {
+            14 => ALBANIA,
+            15 => AUSTRIA,
+            16 => BELGIUM,
+            17 => DENMARK,
+            _ => FINLAND,
+        };
+    }
+    if k < 23 {
+        return match k {
+            19 => GERMANY,
+            20 => HUNGARY,
+            21 => ICELAND,
+            _ => ROMANIA,
+        };
+    }
+    match k {
+        23 => BULGARIA,
+        24 => PORTUGAL,
+        _ => SLOVENIA,
+    }
+}
+
+// Nine and more.
+fn of_nine_or_more(k: usize) -> Calendar
+    requires { ⌜ (26 ≤ k) × (k < 36) ⌝ }
+    ensures { λ c. ⌜ c ≡ calendarAt k ⌝ }
+{
     if k < 29 {
-        return OF_NINE_LETTERS[k - 26];
+        return match k {
+            26 => Calendar::GREGORIAN,
+            27 => AUSTRALIA,
+            _ => LITHUANIA,
+        };
     }
     if k < 33 {
-        return OF_TEN_AND_ELEVEN[k - 29];
+        return match k {
+            29 => LUXEMBOURG,
+            30 => YUGOSLAVIA,
+            31 => NETHERLANDS,
+            _ => SWITZERLAND,
+        };
     }
-    OF_MORE_LETTERS[k - 33]
+    match k {
+        33 => UNITED_STATES,
+        34 => CZECH_REPUBLIC,
+        _ => UNITED_KINGDOM,
+    }
 }
