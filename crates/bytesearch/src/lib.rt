@@ -51,7 +51,7 @@ fn turns_end(len: usize) -> usize
 }
 
 // The place of the first `b` from `from` on, or of the end; `from` itself where that lies past the end. Eight bytes are looked at in a turn.
-pub fn near(s: &[u8], from: usize, b: u8) -> usize
+pub fn by_eights(s: &[u8], from: usize, b: u8) -> usize
     ensures { λ r. ⌜ UpTo b (now (s .entry)) from r ⌝ }
 {
     let end = turns_end(s.len());
@@ -108,7 +108,7 @@ fn sixteens_end(len: usize) -> usize
     len - 15
 }
 
-// The same as `near`, for a place that may be far.
+// The same as `by_eights`, for a byte that may be far: sixteen are looked at in a turn.
 pub fn up_to(s: &[u8], from: usize, b: u8) -> usize
     ensures { λ r. ⌜ UpTo b (now (s .entry)) from r ⌝ }
 {
@@ -116,9 +116,9 @@ pub fn up_to(s: &[u8], from: usize, b: u8) -> usize
     let mut i = from;
     while i < end {
         if any_sixteen(s, i, b) != 0 {
-            return near(s, i, b);
+            return by_eights(s, i, b);
         }
         i += 16;
     }
-    near(s, i, b)
+    by_eights(s, i, b)
 }

@@ -43,7 +43,7 @@ pub fn line_answer(line: &[u8]) -> Dated
     if 512 < line.len() {
         return Dated::Refused(calendar::refusal_of(20, 0));
     }
-    let tab = bytesearch::near(line, 0, b'\t');
+    let tab = bytesearch::by_eights(line, 0, b'\t');
     match named_before(line, tab) {
         Reformed::Refused(why) => Dated::Refused(why),
         Reformed::Calendar(calendar) => parsed_from(calendar, line, text_from(line.len(), tab)),

@@ -1,4 +1,4 @@
--- `bytesearch::up_to` meets its promise. The loop's invariant is `Going`, as in `near`.
+-- `bytesearch::up_to` meets its promise. The loop's invariant is `Going`, as in `by_eights`.
 -- Assumes nothing.
 use Rattle.bytesearch.specs.Laws.{Going, going-start, going-then, going-further}
 use native.Mathlib.Omega.{arith}
@@ -21,11 +21,11 @@ loop-holds c = going-start _ _ _
 any-sixteen-requires : tie.Need-any-sixteen-requires Inv-loop μ-loop
 any-sixteen-requires c κs = c .before .before .sixteens-end .ensures _ (c .loop-test .taken)
 
-near-requires : tie.Need-near-requires Inv-loop μ-loop
-near-requires c κs = tt
+by-eights-requires : tie.Need-by-eights-requires Inv-loop μ-loop
+by-eights-requires c κs = tt
 
 returns : tie.Need-returns Inv-loop μ-loop
-returns c = going-then (c .before .before .before .before .loop .inv) (c .near .ensures)
+returns c = going-then (c .before .before .before .before .loop .inv) (c .by-eights .ensures)
 
 add-i : tie.Need-add-i Inv-loop μ-loop
 add-i c = omega (arith, c .before .before .before .before .sixteens-end .ensures _ (c .before .before .loop-test .taken))
@@ -36,11 +36,11 @@ loop-less c = omega (arith, c .before .before .before .before .sixteens-end .ens
 loop-again : tie.Need-loop-again Inv-loop μ-loop
 loop-again c = going-further (c .before .before .before .loop .inv) (c .before .any-sixteen .ensures (omega (arith, c .if1 .left)))
 
-near-requires-2 : tie.Need-near-requires-2 Inv-loop μ-loop
-near-requires-2 c κs = tt
+by-eights-requires-2 : tie.Need-by-eights-requires-2 Inv-loop μ-loop
+by-eights-requires-2 c κs = tt
 
 returns-2 : tie.Need-returns-2 Inv-loop μ-loop
-returns-2 c = going-then (c .before .before .loop .inv) (c .near2 .ensures)
+returns-2 c = going-then (c .before .before .loop .inv) (c .by-eights2 .ensures)
 
 pub up-to-spec : {M : Type 1} → statement M
 up-to-spec =
@@ -51,10 +51,10 @@ up-to-spec =
     sixteens-end-requires
     loop-holds
     any-sixteen-requires
-    near-requires
+    by-eights-requires
     returns
     add-i
     loop-less
     loop-again
-    near-requires-2
+    by-eights-requires-2
     returns-2)

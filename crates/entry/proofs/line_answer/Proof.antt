@@ -15,11 +15,11 @@ refusal-of-requires c κs = search needs
 returns : tie.Need-returns
 returns c = rw (c .refusal-of .ensures) (refuses (c .before .if1 .taken))
 
-near-requires : tie.Need-near-requires
-near-requires c κs = search needs
+by-eights-requires : tie.Need-by-eights-requires
+by-eights-requires c κs = search needs
 
 named-before-requires : tie.Need-named-before-requires
-named-before-requires c κs = up-to-inside (c .near .ensures) (omega arith) .1
+named-before-requires c κs = up-to-inside (c .by-eights .ensures) (omega arith) .1
 
 enum-known-why : tie.Need-enum-known-why
 enum-known-why c = search needs
@@ -28,16 +28,16 @@ enum-known-calendar : tie.Need-enum-known-calendar
 enum-known-calendar c = search needs
 
 text-from-requires : tie.Need-text-from-requires
-text-from-requires c κs = up-to-inside (c .before .before .before .before .near .ensures) (omega arith) .1
+text-from-requires c κs = up-to-inside (c .before .before .before .before .by-eights .ensures) (omega arith) .1
 
 parsed-from-requires : tie.Need-parsed-from-requires
 parsed-from-requires c κs = search needs
 
 returns-2 : tie.Need-returns-2
-returns-2 c = passes (λ h. omega (arith, h, c .before .before .before .before .before .if1 .left)) (no-calendar (c .before .before .before .before .near .ensures) (rw (c .before .why .given .1) at (c .before .before .before .named-before .ensures)))
+returns-2 c = passes (λ h. omega (arith, h, c .before .before .before .before .before .if1 .left)) (no-calendar (c .before .before .before .before .by-eights .ensures) (rw (c .before .why .given .1) at (c .before .before .before .named-before .ensures)))
 
 returns-3 : tie.Need-returns-3
-returns-3 c = passes (λ h. omega (arith, h, c .before .before .before .before .before .before .before .if1 .left)) (by-text (entry-from (c .before .before .before .before .before .before .near .ensures) (c .before .text-from .ensures .0)) (rw (c .before .before .before .calendar .given .1) at (c .before .before .before .before .before .named-before .ensures)) (c .parsed-from .ensures))
+returns-3 c = passes (λ h. omega (arith, h, c .before .before .before .before .before .before .before .if1 .left)) (by-text (entry-from (c .before .before .before .before .before .before .by-eights .ensures) (c .before .text-from .ensures .0)) (rw (c .before .before .before .calendar .given .1) at (c .before .before .before .before .before .named-before .ensures)) (c .parsed-from .ensures))
 
 pub line-answer-spec : {M : Type 1} → statement M
 line-answer-spec =
@@ -45,7 +45,7 @@ line-answer-spec =
     (tie.spec
     refusal-of-requires
     returns
-    near-requires
+    by-eights-requires
     named-before-requires
     enum-known-why
     enum-known-calendar

@@ -1,10 +1,10 @@
--- `bytesearch::near` meets its promise. The loop's invariant is `Going`: what was passed is without the byte. The measure is what is left before the end of the turns.
+-- `bytesearch::by_eights` meets its promise. The loop's invariant is `Going`: what was passed is without the byte. The measure is what is left before the end of the turns.
 -- Assumes nothing.
 use Rattle.bytesearch.specs.Laws.{Going, going-start, going-then, four-found, four-passed, eight-passed}
 use native.Mathlib.Omega.{arith}
 use Prim.Native.Nat.{_-_}
-use Rattle.bytesearch.proofs.near.Statement.{statement}
-use Rattle.bytesearch.proofs.near.Tie as tie
+use Rattle.bytesearch.proofs.by_eights.Statement.{statement}
+use Rattle.bytesearch.proofs.by_eights.Tie as tie
 
 abbrev Inv-loop : tie.InvT-loop
 Inv-loop s from b end i₀ i = Going b s from i
@@ -57,8 +57,8 @@ next-to-requires c κs = tt
 returns-3 : tie.Need-returns-3 Inv-loop μ-loop
 returns-3 c = going-then (c .before .before .loop .inv) (c .next-to .ensures)
 
-pub near-spec : {M : Type 1} → statement M
-near-spec =
+pub by-eights-spec : {M : Type 1} → statement M
+by-eights-spec =
     tie.close
     (tie.spec
     Inv-loop
