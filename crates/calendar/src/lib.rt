@@ -353,19 +353,13 @@ impl Date {
     pub fn succ(self) -> Dated
         ensures { λ a. ⌜ Next self (sucℤ (self .jdn)) a ⌝ }
     {
-        match next_in_month(self, true) {
-            Near::Date(date) => Dated::Date(date),
-            Near::Other => beside(self, Kind::Later),
-        }
+        ahead(self, Kind::Later)
     }
 
     pub fn pred(self) -> Dated
         ensures { λ a. ⌜ Next self (predℤ (self .jdn)) a ⌝ }
     {
-        match next_in_month(self, false) {
-            Near::Date(date) => Dated::Date(date),
-            Near::Other => beside(self, Kind::Earlier),
-        }
+        ahead(self, Kind::Earlier)
     }
 }
 
@@ -453,7 +447,16 @@ fn one_on(later: bool, n: u32) -> u32
     n - 1
 }
 
-// The date of the day that lies ahead of a date on a way.
+// The date of the day that lies ahead of a date on a way: in its month, or by its day number.
+fn ahead(date: Date, way: Kind) -> Dated
+    ensures { λ a. ⌜ Next date (toward way (date .jdn)) a ⌝ }
+{
+    match next_in_month(date, ways::goes_later(way)) {
+        Near::Date(next) => Dated::Date(next),
+        Near::Other => beside(date, way),
+    }
+}
+
 fn beside(date: Date, way: Kind) -> Dated
     ensures { λ a. ⌜ Next date (toward way (date .jdn)) a ⌝ }
 {

@@ -17,8 +17,8 @@ use Rattle.ways.specs.declared.Kind.{Kind}
 use Rattle.ways.specs.declared.Kind.the-variants.{Later, Earlier, AndLater, AndEarlier}
 use Rattle.ways.specs.declared.Step.{Step}
 use Rattle.ways.specs.declared.Step.the-variants as Step′
-use Rattle.ways.specs.Ways.{goesLater, toward, beside, givesHeld, EndedAt, FlagAt, NextStep, made-up, ended, goes}
-use Rattle.ways.specs.Laws.{gives-held, gives-ahead, not-both}
+use Rattle.ways.specs.Ways.{goesLater, toward, givesHeld, EndedAt, FlagAt, NextStep, made-up, ended, goes}
+use Rattle.ways.specs.Laws.{ahead-is, gives-held, gives-ahead, not-both}
 use Rattle.walker.specs.declared.Walker.{Walker}
 use Rattle.walker.specs.declared.Moved.{Moved}
 use Rattle.walker.specs.Promise.{GenuineWalker, walker, moved, unmoved, Moves, moves, Steps}
@@ -60,13 +60,6 @@ module _ (w : Walker) where
     step-gives s (goes l t) (gave r u) = passes (genuine-walker s l) (passes (not-both s) (moves r t u))
 
 -- ---- A step to the next date of the month
--- the day ahead is the one next to it
-pub ahead-is : (k : Kind) (n : ℤ) → beside (goesLater k) n ≡ toward k n
-ahead-is Later n = refl
-ahead-is Earlier n = refl
-ahead-is AndLater n = refl
-ahead-is AndEarlier n = refl
-
 pub not-ended : (b : Bool) → not b ≡ true → b ≡ false
 not-ended true e = sym e
 not-ended false e = refl

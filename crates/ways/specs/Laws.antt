@@ -30,6 +30,13 @@ toward-earlier Earlier n e = refl
 toward-earlier AndLater n e = cc
 toward-earlier AndEarlier n e = refl
 
+-- the day ahead is the one next to it
+pub ahead-is : (k : Kind) (n : ℤ) → beside (goesLater k) n ≡ toward k n
+ahead-is Later n = refl
+ahead-is Earlier n = refl
+ahead-is AndLater n = refl
+ahead-is AndEarlier n = refl
+
 pub gives-held : (k : Kind) (n : ℤ) → givesHeld k ≡ true → gives k n ≡ n
 gives-held Later n e = cc
 gives-held Earlier n e = cc
