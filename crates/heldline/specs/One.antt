@@ -35,7 +35,7 @@ pub held-line-one : {l m : List ℕ} {n k : ℕ} {t u : List ℕ} → l ≡ m �
 held-line-one {l} {m} {n} {k} e f (HeldLine.held-line p x) (HeldLine.held-line {a = c} q y) =
     ended-same (held-answer-one p (subst (λ (i : List ℕ). HeldAnswer i n c) (sym e) (subst (λ (i : ℕ). HeldAnswer m i c) (sym f) q))) (x .is) (y .is)
 
-last-line-one : {l : List ℕ} {n : ℕ} {t u : List ℕ} → LastLine l n t → LastLine l n u → t ≡ u
+pub last-line-one : {l : List ℕ} {n : ℕ} {t u : List ℕ} → LastLine l n t → LastLine l n u → t ≡ u
 last-line-one LastLine.no-more LastLine.no-more = refl
 last-line-one LastLine.no-more (LastLine.one-more h q) = absurd (omega arith)
 last-line-one (LastLine.one-more h p) LastLine.no-more = absurd (omega arith)

@@ -97,7 +97,7 @@ lists-inside (Lists.block-ends h) k = k
 lists-inside (Lists.out-of-room h) k = k
 lists-inside (Lists.goes-on h r w l) k = let q = turn-inside w r in lists-inside l (omega (arith, q .0, q .1))
 
-lists-on : {b : List ℕ} {s e : Stand} → Lists b s e → s .at ≤ e .at
+pub lists-on : {b : List ℕ} {s e : Stand} → Lists b s e → s .at ≤ e .at
 lists-on (Lists.block-ends h) = omega arith
 lists-on (Lists.out-of-room h) = omega arith
 lists-on (Lists.goes-on h r w l) = omega (arith, turn-grows w h, lists-on l)

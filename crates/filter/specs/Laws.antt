@@ -1,0 +1,65 @@
+-- From what the calls below say to the promises.
+-- Assumes nothing.
+use Prim.Native.Nat.{ℕ, zero, suc, _≤_, _<_, min}
+use mathlib.Core.Path.{_≡_, refl, sym, _∙_, ap, subst}
+use mathlib.Core.Bool.{Bool, true, false, true≢false}
+use mathlib.Core.List.{List}
+use native.Mathlib.Nat.{zero-add}
+use native.Mathlib.Omega.{arith}
+use lib.ListN.{length}
+use lib.IntN.{ℤ, pos, negsuc}
+use lib.Signed.{ltZ}
+use borrow.Author.Tests.{ltb-true}
+use Rattle.io.specs.Counts.{clamped}
+use Rattle.buffer.specs.Buffer.{put, Copies}
+use Rattle.buffer.specs.declared.Copied.{Copied}
+use Rattle.filter.specs.declared.Phase.{Phase}
+use Rattle.filter.specs.declared.Phase.the-variants.{Reading, Midway, Closing, Failing, Ended}
+use Rattle.filter.specs.declared.Event.the-variants.{Block, InputEnds, Unread}
+use Rattle.filter.specs.declared.State.{State}
+use Rattle.filter.specs.Promise.{roomOf, arrivedOf, stateWith, Says}
+
+-- ---- what a read answered
+
+unread′ : (g : ℤ) → ltZ g (pos 0) ≡ true → Unread ≡ arrivedOf g
+unread′ (negsuc k) h = refl
+unread′ (pos k) h = absurd (omega (arith, ltb-true k 0 h))
+
+input-ends′ : (g : ℤ) {n : ℕ} → ltZ g (pos 0) ≡ false → n ≡ clamped g 65536 → n < 1 → InputEnds ≡ arrivedOf g
+input-ends′ (pos zero) h e i = refl
+input-ends′ (pos (suc k)) h e i = absurd (omega (arith, e))
+input-ends′ (negsuc k) h e i = absurd (true≢false h)
+
+came′ : (g : ℤ) {n : ℕ} → n ≡ clamped g 65536 → 1 ≤ n → Block n ≡ arrivedOf g
+came′ (pos zero) e i = absurd (omega (arith, e))
+came′ (pos (suc k)) e i = ap Block e
+came′ (negsuc k) e i = absurd (omega (arith, e))
+
+-- of a number that was handed on as g
+module _ {g z : ℤ} (e : g ≡ z) where
+  pub unread : ltZ g (pos 0) ≡ true → Unread ≡ arrivedOf z
+  unread h = subst (λ (x : ℤ). Unread ≡ arrivedOf x) e (unread′ g h)
+
+  pub input-ends : {n m : ℕ} → m ≡ 65536 → ltZ g (pos 0) ≡ false → n ≡ clamped g m → n < 1 → InputEnds ≡ arrivedOf z
+  input-ends l h c i = subst (λ (x : ℤ). InputEnds ≡ arrivedOf x) e (input-ends′ g h (c ∙ ap (clamped g) l) i)
+
+  pub came : {n m : ℕ} → m ≡ 65536 → n ≡ clamped g m → 1 ≤ n → Block n ≡ arrivedOf z
+  came {n} l c i = subst (λ (x : ℤ). Block n ≡ arrivedOf x) e (came′ g (c ∙ ap (clamped g) l) i)
+
+-- ---- the room for a read lies in the block
+
+pub room-fits : (p : Phase) (w : Bool) → roomOf p w ≤ 65536
+room-fits Reading true = omega arith
+room-fits Reading false = omega arith
+room-fits Midway w = omega arith
+room-fits Closing w = omega arith
+room-fits Failing w = omega arith
+room-fits Ended w = omega arith
+
+-- ---- a message
+
+pub says-so : {t o o′ : List ℕ} {n : ℕ} {s : State} → Copies t o 0 o′ (Copied.To n) → s ≡ stateWith Failing n → Says t o o′ s
+says-so {t} {o} (Copies.copied h) e = subst (Says t o (put o 0 t)) (sym (e ∙ ap (stateWith Failing) (zero-add (length t)))) (Says.said (omega arith))
+
+pub says-nothing : {t o o′ : List ℕ} {s : State} → Copies t o 0 o′ Copied.NoRoom → s ≡ stateWith Failing 0 → Says t o o′ s
+says-nothing {t} {o} (Copies.no-room h) e = subst (Says t o o) (sym e) (Says.unsaid (omega arith))

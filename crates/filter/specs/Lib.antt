@@ -1,0 +1,4 @@
+-- A program that reads blocks and writes as it goes. `Promise` says what each phase does next, and what has happened since the last call.
+pub mod Promise
+pub mod Laws
+pub mod One

@@ -1,0 +1,63 @@
+-- What a program that reads blocks does next, by its phase, and what has happened since the last call. All are tables.
+-- Assumes nothing.
+use Prim.Native.Nat.{ℕ, zero, suc, _≤_, _<_, min}
+use mathlib.Core.Path.{_≡_}
+use mathlib.Core.Bool.{Bool, true, false}
+use mathlib.Core.List.{List}
+use lib.ListN.{length}
+use lib.IntN.{ℤ, pos, negsuc}
+use Rattle.buffer.specs.Buffer.{put}
+use Rattle.filter.specs.declared.Phase.{Phase}
+use Rattle.filter.specs.declared.Phase.the-variants.{Reading, Midway, Closing, Failing, Ended}
+use Rattle.filter.specs.declared.Event.{Event}
+use Rattle.filter.specs.declared.Event.the-variants.{Block, Rest, InputEnds, Unread, Unwritten, Finished}
+use Rattle.filter.specs.declared.State.{State}
+
+-- there is something left to do
+abbrev pub goesOn : Phase → Bool
+goesOn Reading = true
+goesOn Midway = true
+goesOn Closing = true
+goesOn Failing = true
+goesOn Ended = false
+
+-- messages go to standard error, all else to standard output
+abbrev pub outputOf : Phase → ℤ
+outputOf Reading = pos 1
+outputOf Midway = pos 1
+outputOf Closing = pos 1
+outputOf Failing = pos 2
+outputOf Ended = pos 1
+
+-- a whole block is read, or nothing
+abbrev pub roomOf : Phase → Bool → ℕ
+roomOf Reading true = 65536
+roomOf Reading false = 0
+roomOf Midway w = 0
+roomOf Closing w = 0
+roomOf Failing w = 0
+roomOf Ended w = 0
+
+-- what the answer of a read tells: it failed, the input has ended, or so many bytes came
+abbrev pub arrivedOf : ℤ → Event
+arrivedOf (negsuc k) = Unread
+arrivedOf (pos zero) = InputEnds
+arrivedOf (pos (suc k)) = Block (min (suc k) 65536)
+
+abbrev pub eventOf : Phase → Bool → ℤ → Event
+eventOf Reading true g = arrivedOf g
+eventOf Reading false g = Unwritten
+eventOf Midway true g = Rest
+eventOf Midway false g = Unwritten
+eventOf Closing true g = Finished
+eventOf Closing false g = Unwritten
+eventOf Failing w g = Finished
+eventOf Ended w g = Finished
+
+abbrev pub stateWith : Phase → ℕ → State
+stateWith p u = record { phase = p; at = 0; count = 0; held = 0; used = u }
+
+-- the message t stands at the front of the output; one that has no room is left out
+pub data Says (t o : List ℕ) : List ℕ → State → Type 0 where
+  said : length t ≤ length o → Says t o (put o 0 t) (stateWith Failing (length t))
+  unsaid : length o < length t → Says t o o (stateWith Failing 0)

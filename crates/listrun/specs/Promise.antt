@@ -1,0 +1,48 @@
+-- What is promised of a run of the listing: how it starts, and what a turn does by what has happened.
+-- Assumes nothing.
+use Prim.Native.Nat.{ℕ, _≤_, _<_}
+use mathlib.Core.List.{List}
+use lib.ListN.{length, take}
+use Rattle.names.specs.Table.{bytes}
+use Rattle.buffer.specs.Buffer.{put}
+use Rattle.columns.specs.Columns.{header}
+use Rattle.heldline.specs.Held.{LastLine}
+use Rattle.listing.specs.Blocks.{stand, Lists}
+use Rattle.filter.specs.declared.Phase.{Phase}
+use Rattle.filter.specs.declared.Phase.the-variants.{Reading, Midway, Closing, Ended}
+use Rattle.filter.specs.declared.Event.{Event}
+use Rattle.filter.specs.declared.Event.the-variants.{Block, Rest, InputEnds, Unread, Unwritten, Finished}
+use Rattle.filter.specs.declared.State.{State}
+use Rattle.filter.specs.Promise.{stateWith, Says}
+
+-- the header stands at the front of the output o
+pub data Starts (o : List ℕ) : List ℕ → State → Type 0 where
+  starts : Starts o (put o 0 header) (stateWith Reading (length header))
+
+abbrev pub stateAt : Phase → ℕ → ℕ → ℕ → ℕ → State
+stateAt p at n h u = record { phase = p; at = at; count = n; held = h; used = u }
+
+-- Lines of the first n bytes of b, from a place on, stand at the front of the output, with h bytes of a line held before them in l. Those bytes are then
+-- used up, or the output was full before.
+pub data Advances (b l o : List ℕ) (from n h : ℕ) : List ℕ → List ℕ → State → Type 0 where
+  used-up : {l′ o′ : List ℕ} {at h′ u : ℕ} → Lists (take n b) (stand from l h o 0) (stand at l′ h′ o′ u) → n ≤ at → Advances b l o from n h l′ o′ (stateAt Reading at n h′ u)
+  within : {l′ o′ : List ℕ} {at h′ u : ℕ} → Lists (take n b) (stand from l h o 0) (stand at l′ h′ o′ u) → at < n → Advances b l o from n h l′ o′ (stateAt Midway at n h′ u)
+
+-- the last line, where it had no newline, stands there
+pub data Closes (l : List ℕ) (h : ℕ) (o : List ℕ) : List ℕ → State → Type 0 where
+  closes : {t : List ℕ} → LastLine l h t → Closes l h o (put o 0 t) (stateWith Closing (length t))
+
+unfoldable pub unread : List ℕ
+unread = bytes "list: standard input could not be read to its end; the listing is not complete\n"
+
+unfoldable pub unwritten : List ℕ
+unwritten = bytes "list: standard output could not be written; the listing is not complete\n"
+
+-- A turn with the block b, the line buffer l and the output o, by what has happened.
+pub data GoesOn (b l o : List ℕ) (s : State) : Event → List ℕ → List ℕ → State → Type 0 where
+  next-block : {n : ℕ} {l′ o′ : List ℕ} {s′ : State} → Advances b l o 0 n (s .held) l′ o′ s′ → GoesOn b l o s (Block n) l′ o′ s′
+  same-block : {l′ o′ : List ℕ} {s′ : State} → Advances b l o (s .at) (s .count) (s .held) l′ o′ s′ → GoesOn b l o s Rest l′ o′ s′
+  last-line : {o′ : List ℕ} {s′ : State} → Closes l (s .held) o o′ s′ → GoesOn b l o s InputEnds l o′ s′
+  cannot-read : {o′ : List ℕ} {s′ : State} → Says unread o o′ s′ → GoesOn b l o s Unread l o′ s′
+  cannot-write : {o′ : List ℕ} {s′ : State} → Says unwritten o o′ s′ → GoesOn b l o s Unwritten l o′ s′
+  ends : GoesOn b l o s Finished l o (stateWith Ended 0)
