@@ -275,7 +275,7 @@ fn calendar_of(letter: u8) -> Calendar {
     match letter {
         b'J' => Calendar::Julian,
         b'G' => Calendar::Gregorian,
-        _ => Calendar::Reforming(2_299_161),
+        _ => Calendar::REFORM1582,
     }
 }
 

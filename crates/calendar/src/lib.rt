@@ -12,25 +12,20 @@ ghost use Rattle.calendar.specs.Promise.{refused, refusedReformation, Re
 ghost use Rattle.calendar.specs.InMonth.{NextInMonth, IsUsual, IsOn, Movable, movedBy, OneOn, oneOn};
 ghost use Rattle.calendar.specs.Natural.{SwitchIs, ReformDateOf, fieldsOf, JulianStyleIs};
 use fields::Fields;
+pub use inner::RATA_DIE_ZERO_JDN;
+pub use inner::REFORM1582_JDN;
+pub use inner::UNIX_EPOCH_JDN;
 use monthdays::DayOrdinal;
 use reformation::Judgement;
 pub use refusals::Refusal;
 pub use refusals::refusal_of;
 use ways::Kind;
 use ways::Neighbour;
-pub use weekday::Weekday;
 use whole::lowered;
 use whole::raised;
 use whole::widened;
 
 mod record;
-
-// The first day of the Gregorian calendar as it was decreed in 1582; day 0 of the Unix clock; and the day before 1 January of year 1.
-pub const REFORM1582_JDN: i32 = 2299161;
-
-pub const UNIX_EPOCH_JDN: i32 = 2440588;
-
-pub const RATA_DIE_ZERO_JDN: i32 = 1721425;
 
 // A calendar that is reforming at a day has Julian dates below it, and Gregorian ones from it on.
 pub enum Calendar {
@@ -153,6 +148,9 @@ impl Calendar {
     pub const JULIAN: Calendar = Calendar::Julian;
 
     pub const GREGORIAN: Calendar = Calendar::Gregorian;
+
+    // The calendar as it was reformed first, in 1582.
+    pub const REFORM1582: Calendar = Calendar::Reforming(REFORM1582_JDN);
 
     // The calendar that is reforming at day r.
     pub fn reforming(r: i32) -> Reformed
@@ -301,7 +299,7 @@ impl Date {
         ensures { λ a. ⌜ CountsDate self (weekday (self .jdn)) a ⌝ }
     {
         if self.is_genuine() {
-            return Counted::Number(Weekday::for_jdn(self.jdn));
+            return Counted::Number(weekday::for_jdn(self.jdn));
         }
         Counted::Refused(refusal_of(16, 0))
     }

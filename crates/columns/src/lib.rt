@@ -6,7 +6,6 @@ ghost use Rattle.columns.specs.Columns.{header, rowOf, lineOf};
 use buffer::Copied;
 use calendar::Date;
 use calendar::Dated;
-use calendar::Weekday;
 use linetext::Line;
 use linetext::Row;
 use writer::Written;
@@ -15,7 +14,7 @@ fn row_of(date: Date) -> Row
     ensures { λ r. ⌜ r ≡ rowOf date ⌝ }
 {
     let day = date.day;
-    let weekday = Weekday::for_jdn(date.jdn);
+    let weekday = weekday::for_jdn(date.jdn);
     Row {
         jdn: whole::widened(date.jdn),
         year: whole::widened(date.year),

@@ -61,6 +61,12 @@ pub record KnownDays : Type 0 where
   pub friday : weekday (pos 2_299_161) ≡ 5
   pub second-before-epoch : UnixTime (negsuc 0) (pos 2_440_587) 86_399
 
+-- three days that have names, by their Gregorian dates: the first of the reformed calendar, day 0 of Unix time, and the day before year 1
+pub record NamedDays (reform1582 unixEpoch rataDieZero : ℤ) : Type 0 where
+  pub first-reformed : labels Gregorian reform1582 ≡ label (pos 1582) 10 15
+  pub first-of-1970 : labels Gregorian unixEpoch ≡ label (pos 1970) 1 1
+  pub last-of-0 : labels Gregorian rataDieZero ≡ label (pos 0) 12 31
+
 -- ---- The proof: each day by its year, month and day in the calendar that labels it, and its places by the first days of year and month.
 -- What is asked of the numbers is a test that is computed.
 testThere : (ℕ → Bool) → ℕ → ℕ → ℕ → Bool
@@ -134,4 +140,13 @@ known-days =
       day-ordinal-december = in-december .day-ordinal;
       friday = weekday-is 2_149_782_809;
       second-before-epoch = record { rest = omega arith; adds = refl };
+    }
+
+pub named-days : NamedDays (pos 2_299_161) (pos 2_440_588) (pos 1_721_425)
+unfolding monthLength testThere
+named-days =
+    record {
+      first-reformed = in-gregorian gregorian-runs 2_147_485_582 10 15 tt tt .dated .0;
+      first-of-1970 = in-gregorian gregorian-runs 2_147_485_970 1 1 tt tt .dated .0;
+      last-of-0 = in-gregorian gregorian-runs 2_147_484_000 12 31 tt tt .dated .0;
     }

@@ -4,6 +4,7 @@
 ghost use mathlib.Core.Path.{_≡_};
 ghost use Prim.Native.Nat.{_<_};
 ghost use Rattle.days.specs.DayByDay.{julian, gregorian, julianLeap, gregorianLeap, labelOf};
+ghost use Rattle.days.specs.KnownDays.{NamedDays};
 ghost use Rattle.days.specs.Year.{yearLength};
 ghost use Rattle.days.specs.Starts.{Spot as InYear};
 ghost use Rattle.days.specs.Julian as J;
@@ -21,6 +22,32 @@ const LEAST_YEAR: u64 = 352;
 
 // The held day on which held year 0 begins in the Gregorian reckoning, and with it the first cycle of 400 years. In the Julian one it is day 0.
 const FIRST_CYCLE: u64 = 16_106_132;
+
+// ---- Days that have names
+
+// The first day of the Gregorian calendar as it was decreed in 1582; day 0 of Unix time; and the day before 1 January of year 1.
+pub const REFORM1582_JDN: i32 = 2299161;
+
+pub const UNIX_EPOCH_JDN: i32 = 2440588;
+
+pub const RATA_DIE_ZERO_JDN: i32 = 1721425;
+
+struct Named {
+    reform1582: i32,
+    unix_epoch: i32,
+    rata_die_zero: i32,
+}
+
+// Nobody calls it: its promise holds the three numbers to their dates.
+fn named_days() -> Named
+    ensures { λ d. ⌜ NamedDays (d .reform1582) (d .«unix_epoch») (d .«rata_die_zero») ⌝ }
+{
+    Named {
+        reform1582: REFORM1582_JDN,
+        unix_epoch: UNIX_EPOCH_JDN,
+        rata_die_zero: RATA_DIE_ZERO_JDN,
+    }
+}
 
 // ---- Leap years
 

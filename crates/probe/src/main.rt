@@ -234,7 +234,7 @@ fn of_calendar(line: &[u8], from: usize) -> Reply {
 // Queries about a day number alone: `wd` and `sec`.
 fn of_day(letter: u8, jdn: i32) -> Reply {
     if letter == b'w' {
-        return reply::count(reply::none(), calendar::Weekday::for_jdn(jdn));
+        return reply::count(reply::none(), weekday::for_jdn(jdn));
     }
     reply::number(reply::none(), unixtime::jdn2unix(jdn))
 }

@@ -3,14 +3,8 @@
 ghost use mathlib.Core.Path.{_≡_};
 ghost use Rattle.days.specs.DayByDay.{weekday};
 
-pub struct Weekday {
-    pub number: u32,
-}
-
-impl Weekday {
-    pub fn for_jdn(jdn: i32) -> u32
-        ensures { λ w. ⌜ w ≡ weekday jdn ⌝ }
-    {
-        ((whole::raised(jdn) as u64 + 5) % 7 + 1) as u32
-    }
+pub fn for_jdn(jdn: i32) -> u32
+    ensures { λ w. ⌜ w ≡ weekday jdn ⌝ }
+{
+    ((whole::raised(jdn) as u64 + 5) % 7 + 1) as u32
 }

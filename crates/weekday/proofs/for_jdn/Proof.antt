@@ -1,4 +1,4 @@
--- `weekday::Weekday::for_jdn` meets its promise.
+-- `weekday::for_jdn` meets its promise.
 -- Assumes nothing.
 use mathlib.Core.Path.{sym, _∙_, ap}
 use Prim.Native.Nat.{_-_}
@@ -6,8 +6,8 @@ use borrow.Author.Needs.{needs}
 use mir.Facts.{toZ-ofZ}
 use Rattle.days.specs.DayByDay.{weekday}
 use Rattle.days.specs.Weekdays.{weekday-is}
-use Rattle.weekday.proofs.Weekday.for_jdn.Statement.{statement}
-use Rattle.weekday.proofs.Weekday.for_jdn.Tie as tie
+use Rattle.weekday.proofs.for_jdn.Statement.{statement}
+use Rattle.weekday.proofs.for_jdn.Tie as tie
 
 raised-requires : tie.Need-raised-requires
 raised-requires c κs = search needs
