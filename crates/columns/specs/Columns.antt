@@ -6,7 +6,7 @@ use Rattle.days.specs.DayByDay.{weekday}
 use Rattle.calendar.specs.declared.Date.{Date}
 use Rattle.calendar.specs.declared.Dated.{Dated}
 use Rattle.calendar.specs.declared.Dated.the-variants as Dated′
-use Rattle.names.specs.Table.{bytes}
+use Rattle.whole.specs.Text.{bytes}
 use Rattle.linetext.specs.declared.Row.{Row}
 use Rattle.linetext.specs.declared.Line.{Line}
 use Rattle.linetext.specs.declared.Line.the-variants as Line′

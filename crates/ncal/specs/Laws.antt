@@ -1,89 +1,118 @@
--- From the number of a name to the promise. One test of all names and one of all rows are computed: each name has a row, and the name of each row is
--- one of the names.
+-- A name is found among rows as among those of its length alone, and what is found is the promise.
 -- Assumes nothing.
-use mathlib.Core.Path.{_≡_, refl, sym, _∙_, ap, subst}
-use mathlib.Core.Bool.{Bool, false, _&&_, _||_}
-use mathlib.Core.List.{List, [], _∷_, map, List·Memᴰ, List·Memᴰ·head, List·Memᴰ·tail}
-use mathlib.Core.Logic.{⊎-elim}
-use Prim.Native.Nat.{ℕ, _+_, _<_}
+use mathlib.Core.Path.{_≡_, refl, sym, _∙_, ap, ap₂, subst}
+use mathlib.Core.Bool.{Bool, true, false, cond, _&&_, _||_}
+use mathlib.Core.List.{List, [], _∷_, List·Memᴰ, List·Memᴰ·head, List·Memᴰ·tail, List·Memᴰ·cases-cons, List·Memᴰ·not-nil}
+use mathlib.Core.Logic.{_⊎_, inl, inr, ⊎-elim}
+use Prim.Native.Nat.{ℕ}
 use native.Mathlib.Omega.{arith}
-use lib.Dec.{T, ltb}
-use lib.ListN.{length, getD, take, drop, List·getD-map}
-use lib.Seq.{getD-take, getD-drop}
-use mir.Facts.{and-yes, or-yes, ltb-yes}
-use Rattle.names.specs.declared.Place.the-variants.{At, Nowhere}
-use Rattle.names.specs.Table.{bytes, names}
-use Rattle.names.specs.Promise.{nameAt, IsName, Found}
-use Rattle.names.specs.Every.{every, every-at, number-of, entry-at, eqList, eq-list}
-use Rattle.names.specs.Laws.{at-name}
+use borrow.Author.Tests.{eqb-false, ne-eqb}
+use lib.Dec.{T, eqb}
+use lib.ListN.{length}
+use mir.Facts.{and-yes}
+use Rattle.whole.specs.Tests.{true-or-false}
 use Rattle.calendar.specs.Rows.{refuses, passes}
 use Rattle.calendar.specs.declared.Calendar.{Calendar}
-use Rattle.calendar.specs.declared.Calendar.the-variants.{Julian}
 use Rattle.calendar.specs.declared.Reformed.the-variants as Reformed′
+use Rattle.ncal.specs.declared.Found.{Found}
+use Rattle.ncal.specs.declared.Found.the-variants as Found′
+use Rattle.ncal.specs.Every.{eqList, eq-list, list-eq}
 use Rattle.ncal.specs.Table.{Row, row, table}
-use Rattle.ncal.specs.Promise.{InTable, Known, NamesCalendar, unknownName, of-row}
-use Rattle.ncal.specs.Search.{rowAt, rowNumber, calendarAt}
+use Rattle.ncal.specs.Promise.{NamesCalendar, unknownName, of-row}
+use Rattle.ncal.specs.Search.{orRow, orRows, among, ofLength}
 
--- ---- Rows by number
-rows : length table ≡ 36
-unfolding table
-rows = refl
+impossible : _≡_ {A = ℕ} 0 1 → ⊥
+impossible z = omega arith
 
-abbrev pub EveryRow : (ℕ → Row → Bool) → Type 0
-EveryRow f = T (every f 0 table)
+-- ---- What a row says of a name
+equal : (s t : List ℕ) → s ≡ t → eqList s t ≡ true
+equal s t e = subst (λ (u : List ℕ). eqList s u ≡ true) e (list-eq s)
 
-pub at-row : (f : ℕ → Row → Bool) → EveryRow f → (i : ℕ) → i < 36 → T (f i (rowAt i))
-at-row f t i h = every-at f (row [] Julian) table t i (omega (arith, rows))
+same-or-other : (s t : List ℕ) → (s ≡ t) ⊎ ¬ (s ≡ t)
+same-or-other s t = ⊎-elim (λ e. inl (eq-list s t (subst T (sym e) tt))) (λ e. inr (λ q. subst T e (subst T (sym (equal s t q)) tt))) (true-or-false (eqList s t))
 
-pub row-of : {s : List ℕ} {c : Calendar} → InTable s c → (i : ℕ) × (i < 36) × (row s c ≡ rowAt i)
-row-of m = let (i, h, e) = number-of (row [] Julian) table m in (i, omega (arith, rows), e)
+pub own-row : (s : List ℕ) (r : Row) → s ≡ r .name → orRow s Found′.Nothing r ≡ Found′.Calendar (r .calendar)
+unfolding orRow
+own-row s r e = rw (equal s (r .name) e)
 
--- ---- Each name has a row
-hasRow : ℕ → List ℕ → Bool
-hasRow k s = ltb (rowNumber s) 36 && eqList s (rowAt (rowNumber s) .name)
+pub other-row : (s : List ℕ) (f : Found) (r : Row) → ¬ (s ≡ r .name) → orRow s f r ≡ f
+unfolding orRow
+other-row s (Found′.Calendar c) r n = refl
+other-row s Found′.Nothing r n = ⊎-elim (λ e. absurd (n (eq-list s (r .name) (subst T (sym e) tt)))) (λ e. rw e) (true-or-false (eqList s (r .name)))
 
-own-row : (k : ℕ) → k < 36 → T (hasRow k (nameAt k))
-unfolding hasRow table names bytes
-own-row = at-name hasRow tt
+found-stays : (s : List ℕ) (c : Calendar) (rows : List Row) → orRows s (Found′.Calendar c) rows ≡ Found′.Calendar c
+unfolding orRow
+found-stays s c [] = refl
+found-stays s c (r ∷ rows) = found-stays s c rows
 
-in-table : (k : ℕ) → k < 36 → InTable (nameAt k) (calendarAt k)
-unfolding hasRow
-in-table k h =
-    let i : ℕ = rowNumber (nameAt k) in
-    let (a, b) = and-yes (ltb i 36) _ (own-row k h) in
-    let g : i < 36 = ltb-yes a in
-    subst (λ (s : List ℕ). InTable s (calendarAt k)) (sym (eq-list _ _ b)) (entry-at (row [] Julian) table i (omega (arith, rows)))
+-- one row after the others
+pub after : (s : List ℕ) (r : Row) {f g h : Found} → h ≡ orRow s g r → g ≡ f → h ≡ orRow s f r
+after s r e d = e ∙ ap (λ (f : Found). orRow s f r) d
 
--- ---- The name of each row is a name
-isAmong : List ℕ → List (List ℕ) → Bool
-isAmong s [] = false
-isAmong s (t ∷ ts) = eqList s t || isAmong s ts
+-- ---- Rows of the name's length alone
+same-length : (s : List ℕ) (f : Found) (rows : List Row) → orRows s f (ofLength (length s) rows) ≡ orRows s f rows
+same-length s f [] = refl
+same-length s f (r ∷ rows) = ⊎-elim
+    (λ e. ap (λ (b : Bool). orRows s f (cond b (r ∷ ofLength (length s) rows) (ofLength (length s) rows))) e ∙ same-length s (orRow s f r) rows)
+    (λ e. ap (λ (b : Bool). orRows s f (cond b (r ∷ ofLength (length s) rows) (ofLength (length s) rows))) e ∙ same-length s f rows ∙ ap (λ (g : Found). orRows s g rows) (sym (other-row s f r (λ q. eqb-false _ _ e (sym (ap length q))))))
+    (true-or-false (eqb (length (r .name)) (length s)))
 
-among : (s : List ℕ) (l : List (List ℕ)) → T (isAmong s l) → List·Memᴰ s l
-unfolding isAmong
-among s [] h = absurd h
-among s (t ∷ ts) h = ⊎-elim (λ e. List·Memᴰ·head (eq-list s t e)) (λ r. List·Memᴰ·tail (among s ts r)) (or-yes (eqList s t) (isAmong s ts) h)
+pub in-group : (s : List ℕ) (n : ℕ) {f : Found} → f ≡ among s (ofLength n table) → length s ≡ n → f ≡ among s table
+in-group s n {f} e l = subst (λ (m : ℕ). f ≡ among s (ofLength m table)) (sym l) e ∙ same-length s Found′.Nothing table
 
-hasName : ℕ → Row → Bool
-hasName i r = isAmong (r .name) names
+-- ---- A length that no row has
 
-known-name : {s : List ℕ} → Known s → IsName s
-unfolding hasName isAmong table names bytes
-known-name (c, m) = let (i, h, e) = row-of m in subst IsName (ap (λ (r : Row). r .name) (sym e)) (among _ names (at-row hasName tt i h))
+-- the last of the numbers comes first, as where a `match` has passed them
+abbrev pub NoneOf : ℕ → List ℕ → Type 0
+NoneOf l [] = Unit {0}
+NoneOf l (n ∷ ns) = NoneOf l ns × (l ≡ n → ⊥)
 
--- ---- The calendars in the order of the names
-unfoldable pub calendars : List Calendar
-calendars = map (λ (s : List ℕ). rowAt (rowNumber s) .calendar) names
+abbrev isOne : ℕ → List ℕ → Bool
+isOne l [] = false
+isOne l (n ∷ ns) = eqb l n || isOne l ns
 
-pub calendar-among : (a n j k : ℕ) → a + j ≡ k → j < n → getD (take n (drop a calendars)) j Julian ≡ calendarAt k
-unfolding calendars table bytes
-calendar-among a n j k e h =
-    getD-take n (drop a calendars) j Julian h ∙ getD-drop a calendars j Julian ∙ ap (λ (i : ℕ). getD calendars i Julian) e
-    ∙ List·getD-map (λ (s : List ℕ). rowAt (rowNumber s) .calendar) names k []
+none-of : (l : ℕ) (ns : List ℕ) → NoneOf l ns → isOne l ns ≡ false
+none-of l [] h = refl
+none-of l (n ∷ ns) (h, d) = rw (ne-eqb l n d) (none-of l ns h)
 
--- ---- The answer
-pub is-named : {s : List ℕ} {k : ℕ} → Found s (At k) → NamesCalendar s (Reformed′.Calendar (calendarAt k))
-is-named {s} {k} (h, e) = let m : InTable s (calendarAt k) = subst (λ (t : List ℕ). InTable t (calendarAt k)) (sym e) (in-table k h) in passes (calendarAt k, m) (of-row m)
+-- each row's name has one of these lengths
+abbrev pub lengthsIn : List ℕ → List Row → Bool
+lengthsIn ns [] = true
+lengthsIn ns (r ∷ rows) = isOne (length (r .name)) ns && lengthsIn ns rows
 
-pub not-named : {s : List ℕ} → Found s Nowhere → NamesCalendar s unknownName
-not-named n = refuses (λ m. n (known-name m))
+no-row : (l : ℕ) (ns : List ℕ) → isOne l ns ≡ false → (rows : List Row) → T (lengthsIn ns rows) → ofLength l rows ≡ []
+no-row l ns e [] t = refl
+no-row l ns e (r ∷ rows) t =
+    let (a, b) = and-yes (isOne (length (r .name)) ns) _ t in
+    rw (ne-eqb (length (r .name)) l (λ q. subst T e (subst (λ (m : ℕ). T (isOne m ns)) q a))) (no-row l ns e rows b)
+
+pub in-no-group : (s : List ℕ) (ns : List ℕ) → T (lengthsIn ns table) → NoneOf (length s) ns → Found′.Nothing ≡ among s table
+in-no-group s ns t h = ap (λ (rows : List Row). among s rows) (sym (no-row (length s) ns (none-of (length s) ns h) table t)) ∙ same-length s Found′.Nothing table
+
+-- ---- What is found is promised
+module _ (s : List ℕ) where
+  found-first : (r : Row) (rows : List Row) → s ≡ r .name → among s (r ∷ rows) ≡ Found′.Calendar (r .calendar)
+  found-first r rows e = ap (λ (f : Found). orRows s f rows) (own-row s r e) ∙ found-stays s (r .calendar) rows
+
+  found-later : (r : Row) (rows : List Row) → ¬ (s ≡ r .name) → among s (r ∷ rows) ≡ among s rows
+  found-later r rows n = ap (λ (f : Found). orRows s f rows) (other-row s Found′.Nothing r n)
+
+  found-in : (c : Calendar) (rows : List Row) → among s rows ≡ Found′.Calendar c → List·Memᴰ (row s c) rows
+  found-in c [] e = let z : _≡_ {A = ℕ} 0 1 = cc in absurd (impossible z)
+  found-in c (r ∷ rows) e = ⊎-elim
+      (λ q. let i : c ≡ r .calendar = cc (found-first r rows q) in List·Memᴰ·head (ap₂ row q i))
+      (λ n. List·Memᴰ·tail (found-in c rows (sym (found-later r rows n) ∙ e)))
+      (same-or-other s (r .name))
+
+  not-in : {c : Calendar} (rows : List Row) → among s rows ≡ Found′.Nothing → List·Memᴰ (row s c) rows → ⊥
+  not-in [] e m = List·Memᴰ·not-nil m
+  not-in (r ∷ rows) e m = ⊎-elim
+      (λ q. let z : _≡_ {A = ℕ} 0 1 = cc (found-first r rows q) in impossible z)
+      (λ n. ⊎-elim (λ w. n (ap (λ (t : Row). t .name) w)) (λ w. not-in rows (sym (found-later r rows n) ∙ e) w) (List·Memᴰ·cases-cons m))
+      (same-or-other s (r .name))
+
+pub is-named : (s : List ℕ) {c : Calendar} → Found′.Calendar c ≡ among s table → NamesCalendar s (Reformed′.Calendar c)
+is-named s {c} e = let m = found-in s c table (sym e) in passes (c, m) (of-row m)
+
+pub not-named : (s : List ℕ) → Found′.Nothing ≡ among s table → NamesCalendar s unknownName
+not-named s e = refuses (λ k. not-in s table (sym e) (k .1))

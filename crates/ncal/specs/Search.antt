@@ -1,22 +1,29 @@
--- What the private function says: the calendar of a name by the number that the name has.
+-- What the private functions say: row after row, the first with a name.
 -- Assumes nothing.
-use mathlib.Core.List.{List, []}
+use mathlib.Core.Bool.{cond}
+use mathlib.Core.List.{List, [], _∷_}
 use Prim.Native.Nat.{ℕ}
-use lib.ListN.{getD}
-use Rattle.names.specs.Every.{firstWith}
-use Rattle.names.specs.Promise.{nameAt}
-use Rattle.calendar.specs.declared.Calendar.{Calendar}
-use Rattle.calendar.specs.declared.Calendar.the-variants.{Julian}
-use Rattle.ncal.specs.Table.{Row, row, table}
+use lib.Dec.{eqb}
+use lib.ListN.{length}
+use Rattle.ncal.specs.declared.Found.{Found}
+use Rattle.ncal.specs.declared.Found.the-variants as Found′
+use Rattle.ncal.specs.Table.{Row}
+use Rattle.ncal.specs.Every.{eqList}
 
--- the row with the number i
-abbrev pub rowAt : ℕ → Row
-rowAt i = getD table i (row [] Julian)
+-- one row more: what was found before it stays
+unfoldable pub orRow : List ℕ → Found → Row → Found
+orRow s (Found′.Calendar c) r = Found′.Calendar c
+orRow s Found′.Nothing r = cond (eqList s (r .name)) (Found′.Calendar (r .calendar)) Found′.Nothing
 
--- the number of the row with the name s
-abbrev pub rowNumber : List ℕ → ℕ
-rowNumber s = firstWith (λ (r : Row). r .name) s 0 table
+abbrev pub orRows : List ℕ → Found → List Row → Found
+orRows s f [] = f
+orRows s f (r ∷ rows) = orRows s (orRow s f r) rows
 
--- the calendar in the row of the name with the number k
-abbrev pub calendarAt : ℕ → Calendar
-calendarAt k = rowAt (rowNumber (nameAt k)) .calendar
+-- what the name s is among the rows
+abbrev pub among : List ℕ → List Row → Found
+among s rows = orRows s Found′.Nothing rows
+
+-- the rows whose name has n letters
+abbrev pub ofLength : ℕ → List Row → List Row
+ofLength n [] = []
+ofLength n (r ∷ rows) = cond (eqb (length (r .name)) n) (r ∷ ofLength n rows) (ofLength n rows)

@@ -1,15 +1,17 @@
 -- The names are distinct, the promise allows one result, and every calendar of the table is accepted.
 -- Assumes nothing.
-use mathlib.Core.Path.{_≡_, sym, _∙_, ap, subst}
+use mathlib.Core.Path.{_≡_, refl, sym, _∙_, ap, subst}
 use mathlib.Core.Bool.{Bool, true, _&&_}
 use mathlib.Core.List.{List, []}
 use Prim.Native.Nat.{ℕ, _<_}
 use native.Mathlib.Omega.{arith}
 use lib.Dec.{T}
 use lib.IntN.{ℤ, pos}
+use lib.ListN.{length, getD}
 use lib.Signed.{leZ, leZ-yes, _≤ℤ_}
 use mir.Facts.{and-yes}
 use Rattle.whole.specs.Integers.{unbias-le-down}
+use Rattle.whole.specs.Text.{bytes}
 use Rattle.days.specs.DayByDay.{AcceptedReformation, julian-accepted, gregorian-accepted, reforming-accepted}
 use Rattle.days.specs.Held.{dayBias}
 use Rattle.days.specs.Spans.{held-from}
@@ -20,12 +22,25 @@ use Rattle.calendar.specs.declared.Calendar.{Calendar}
 use Rattle.calendar.specs.declared.Calendar.the-variants.{Julian, Gregorian, Reforming}
 use Rattle.calendar.specs.declared.Reformed.{Reformed}
 use Rattle.calendar.specs.declared.Reformed.the-variants as Reformed′
-use Rattle.names.specs.Table.{bytes}
-use Rattle.names.specs.Every.{distinct}
 use Rattle.ncal.specs.Table.{Row, row, table}
 use Rattle.ncal.specs.Promise.{InTable, OfRow, of-row, NamesCalendar}
-use Rattle.ncal.specs.Search.{rowAt}
-use Rattle.ncal.specs.Laws.{at-row, row-of}
+use Rattle.ncal.specs.Every.{every, every-at, number-of, distinct}
+
+-- ---- Rows by number
+
+-- the row with the number i
+abbrev pub rowAt : ℕ → Row
+rowAt i = getD table i (row [] Julian)
+
+rows : length table ≡ 36
+unfolding table
+rows = refl
+
+at-row : (f : ℕ → Row → Bool) → T (every f 0 table) → (i : ℕ) → i < 36 → T (f i (rowAt i))
+at-row f t i h = every-at f (row [] Julian) table t i (omega (arith, rows))
+
+row-of : {s : List ℕ} {c : Calendar} → InTable s c → (i : ℕ) × (i < 36) × (row s c ≡ rowAt i)
+row-of m = let (i, h, e) = number-of (row [] Julian) table m in (i, omega (arith, rows), e)
 
 pub names-distinct : (j k : ℕ) → j < 36 → k < 36 → rowAt j .name ≡ rowAt k .name → j ≡ k
 unfolding table bytes

@@ -1,14 +1,14 @@
 // The calendars of the countries that `ncal` knows, and calendars by name.
 
 ghost use mathlib.Core.Path.{_≡_};
-ghost use Prim.Native.Nat.{_<_, _≤_};
+ghost use Rattle.ncal.specs.Table.{table};
 ghost use Rattle.ncal.specs.Promise.{NamesCalendar};
-ghost use Rattle.ncal.specs.Search.{calendarAt};
+ghost use Rattle.ncal.specs.Search.{orRow, among, ofLength};
+ghost use Rattle.ncal.specs.Table.{row};
 use calendar::Calendar;
 use calendar::Reformed;
 use calendar::refusal_of;
-use names::Place;
-use names::number_of;
+use check::same;
 
 // ---- For each country the calendar that is reforming at its first Gregorian day, with that date and the last Julian one
 
@@ -120,109 +120,138 @@ pub const YUGOSLAVIA: Calendar = Calendar::Reforming(2_422_036);
 pub fn named(name: &[u8]) -> Reformed
     ensures { λ a. ⌜ NamesCalendar (now (name .entry)) a ⌝ }
 {
-    match number_of(name) {
-        Place::At(k) => Reformed::Calendar(calendar_at(k)),
-        Place::Nowhere => Reformed::Refused(refusal_of(19, 0)),
+    match by_length(name) {
+        Found::Calendar(c) => Reformed::Calendar(c),
+        Found::Nothing => Reformed::Refused(refusal_of(19, 0)),
     }
 }
 
-// The calendars of the names, in their order. A `match` to constants is a table; an array would be built anew where it is read.
-fn calendar_at(k: usize) -> Calendar
-    requires { ⌜ k < 36 ⌝ }
-    ensures { λ c. ⌜ c ≡ calendarAt k ⌝ }
-{
-    if k < 14 {
-        return of_five_or_six(k);
-    }
-    if k < 26 {
-        return of_seven_or_eight(k);
-    }
-    of_nine_or_more(k)
+// What a name is found to be among some names.
+enum Found {
+    Calendar(Calendar),
+    Nothing,
 }
 
-// Five and six letters.
-fn of_five_or_six(k: usize) -> Calendar
-    requires { ⌜ k < 14 ⌝ }
-    ensures { λ c. ⌜ c ≡ calendarAt k ⌝ }
-{
-    if k < 4 {
-        return match k {
-            0 => CHINA,
-            1 => ITALY,
-            2 => JAPAN,
-            _ => SPAIN,
-        };
-    }
-    if k < 9 {
-        return match k {
-            4 => Calendar::JULIAN,
-            5 => CANADA,
-            6 => FRANCE,
-            7 => GREECE,
-            _ => LATVIA,
-        };
-    }
-    match k {
-        9 => NORWAY,
-        10 => POLAND,
-        11 => RUSSIA,
-        12 => SWEDEN,
-        _ => TURKEY,
+impl Found {
+    // One more name, with its calendar, where those before it are others.
+    fn or(self, name: &[u8], own: &[u8], calendar: Calendar) -> Found
+        ensures { λ f. ⌜ f ≡ orRow (now (name .entry)) self (row (now (own .entry)) calendar) ⌝ }
+    {
+        match self {
+            Found::Calendar(c) => Found::Calendar(c),
+            Found::Nothing => {
+                if same(name, own) {
+                    return Found::Calendar(calendar);
+                }
+                Found::Nothing
+            }
+        }
     }
 }
 
-// Seven and eight.
-fn of_seven_or_eight(k: usize) -> Calendar
-    requires { ⌜ (14 ≤ k) × (k < 26) ⌝ }
-    ensures { λ c. ⌜ c ≡ calendarAt k ⌝ }
+// A name is compared with those of its own length.
+fn by_length(name: &[u8]) -> Found
+    ensures { λ f. ⌜ f ≡ among (now (name .entry)) table ⌝ }
 {
-    if k < 19 {
-        return match k {
-            14 => ALBANIA,
-            15 => AUSTRIA,
-            16 => BELGIUM,
-            17 => DENMARK,
-            _ => FINLAND,
-        };
-    }
-    if k < 23 {
-        return match k {
-            19 => GERMANY,
-            20 => HUNGARY,
-            21 => ICELAND,
-            _ => ROMANIA,
-        };
-    }
-    match k {
-        23 => BULGARIA,
-        24 => PORTUGAL,
-        _ => SLOVENIA,
+    match name.len() {
+        5 => of_five(name),
+        6 => of_six(name),
+        7 => of_seven(name),
+        8 => of_eight(name),
+        9 => of_nine(name),
+        10 => of_ten(name),
+        11 => of_eleven(name),
+        13 => of_thirteen(name),
+        14 => of_fourteen(name),
+        _ => Found::Nothing,
     }
 }
 
-// Nine and more.
-fn of_nine_or_more(k: usize) -> Calendar
-    requires { ⌜ (26 ≤ k) × (k < 36) ⌝ }
-    ensures { λ c. ⌜ c ≡ calendarAt k ⌝ }
+fn of_five(name: &[u8]) -> Found
+    ensures { λ f. ⌜ f ≡ among (now (name .entry)) (ofLength 5 table) ⌝ }
 {
-    if k < 29 {
-        return match k {
-            26 => Calendar::GREGORIAN,
-            27 => AUSTRALIA,
-            _ => LITHUANIA,
-        };
-    }
-    if k < 33 {
-        return match k {
-            29 => LUXEMBOURG,
-            30 => YUGOSLAVIA,
-            31 => NETHERLANDS,
-            _ => SWITZERLAND,
-        };
-    }
-    match k {
-        33 => UNITED_STATES,
-        34 => CZECH_REPUBLIC,
-        _ => UNITED_KINGDOM,
-    }
+    Found::Nothing
+        .or(name, b"CHINA", CHINA)
+        .or(name, b"ITALY", ITALY)
+        .or(name, b"JAPAN", JAPAN)
+        .or(name, b"SPAIN", SPAIN)
+}
+
+fn of_six(name: &[u8]) -> Found
+    ensures { λ f. ⌜ f ≡ among (now (name .entry)) (ofLength 6 table) ⌝ }
+{
+    Found::Nothing
+        .or(name, b"JULIAN", Calendar::JULIAN)
+        .or(name, b"CANADA", CANADA)
+        .or(name, b"FRANCE", FRANCE)
+        .or(name, b"GREECE", GREECE)
+        .or(name, b"LATVIA", LATVIA)
+        .or(name, b"NORWAY", NORWAY)
+        .or(name, b"POLAND", POLAND)
+        .or(name, b"RUSSIA", RUSSIA)
+        .or(name, b"SWEDEN", SWEDEN)
+        .or(name, b"TURKEY", TURKEY)
+}
+
+fn of_seven(name: &[u8]) -> Found
+    ensures { λ f. ⌜ f ≡ among (now (name .entry)) (ofLength 7 table) ⌝ }
+{
+    Found::Nothing
+        .or(name, b"ALBANIA", ALBANIA)
+        .or(name, b"AUSTRIA", AUSTRIA)
+        .or(name, b"BELGIUM", BELGIUM)
+        .or(name, b"DENMARK", DENMARK)
+        .or(name, b"FINLAND", FINLAND)
+        .or(name, b"GERMANY", GERMANY)
+        .or(name, b"HUNGARY", HUNGARY)
+        .or(name, b"ICELAND", ICELAND)
+        .or(name, b"ROMANIA", ROMANIA)
+}
+
+fn of_eight(name: &[u8]) -> Found
+    ensures { λ f. ⌜ f ≡ among (now (name .entry)) (ofLength 8 table) ⌝ }
+{
+    Found::Nothing
+        .or(name, b"BULGARIA", BULGARIA)
+        .or(name, b"PORTUGAL", PORTUGAL)
+        .or(name, b"SLOVENIA", SLOVENIA)
+}
+
+fn of_nine(name: &[u8]) -> Found
+    ensures { λ f. ⌜ f ≡ among (now (name .entry)) (ofLength 9 table) ⌝ }
+{
+    Found::Nothing
+        .or(name, b"GREGORIAN", Calendar::GREGORIAN)
+        .or(name, b"AUSTRALIA", AUSTRALIA)
+        .or(name, b"LITHUANIA", LITHUANIA)
+}
+
+fn of_ten(name: &[u8]) -> Found
+    ensures { λ f. ⌜ f ≡ among (now (name .entry)) (ofLength 10 table) ⌝ }
+{
+    Found::Nothing
+        .or(name, b"LUXEMBOURG", LUXEMBOURG)
+        .or(name, b"YUGOSLAVIA", YUGOSLAVIA)
+}
+
+fn of_eleven(name: &[u8]) -> Found
+    ensures { λ f. ⌜ f ≡ among (now (name .entry)) (ofLength 11 table) ⌝ }
+{
+    Found::Nothing
+        .or(name, b"NETHERLANDS", NETHERLANDS)
+        .or(name, b"SWITZERLAND", SWITZERLAND)
+}
+
+fn of_thirteen(name: &[u8]) -> Found
+    ensures { λ f. ⌜ f ≡ among (now (name .entry)) (ofLength 13 table) ⌝ }
+{
+    Found::Nothing.or(name, b"UNITED_STATES", UNITED_STATES)
+}
+
+fn of_fourteen(name: &[u8]) -> Found
+    ensures { λ f. ⌜ f ≡ among (now (name .entry)) (ofLength 14 table) ⌝ }
+{
+    Found::Nothing
+        .or(name, b"CZECH_REPUBLIC", CZECH_REPUBLIC)
+        .or(name, b"UNITED_KINGDOM", UNITED_KINGDOM)
 }

@@ -3,7 +3,7 @@
 use Rattle.columns.specs.Laws.{header-wrote, header-left}
 use mathlib.Core.Path.{refl}
 use Rattle.columns.specs.Columns.{header}
-use Rattle.names.specs.Table.{bytes}
+use Rattle.whole.specs.Text.{bytes}
 use borrow.Author.Needs.{needs}
 use Rattle.columns.proofs.put_header.Statement.{statement}
 use Rattle.columns.proofs.put_header.Tie as tie

@@ -3,11 +3,12 @@
 -- Assumes nothing.
 use mathlib.Core.Path.{_≡_, refl, sym, _∙_, ap, ap₂, subst}
 use mathlib.Core.Bool.{Bool, true, false, cond, _&&_}
-use mathlib.Core.List.{List, [], _∷_, List·Memᴰ, List·Memᴰ·head, List·Memᴰ·tail, List·Memᴰ·cases-cons, List·Memᴰ·not-nil}
+use mathlib.Core.List.{List, [], _∷_, List·Memᴰ, List·Memᴰ·cases-cons, List·Memᴰ·not-nil}
 use mathlib.Core.Logic.{⊎-elim}
 use Prim.Native.Nat.{ℕ, zero, suc, _+_, _<_}
 use native.Mathlib.Nat.{add-zero, zero-add, add-suc, suc-add, le-of-suc-le-suc, not-suc-le-zero}
 use native.Mathlib.Omega.{arith}
+use borrow.Author.Tests.{eq-eqb}
 use lib.Dec.{T, eqb, eqb→eq}
 use lib.ListN.{length, getD}
 use mir.Facts.{and-yes}
@@ -28,15 +29,10 @@ from f d (x ∷ xs) i t (suc k) h =
 pub every-at : {A : Type 0} (f : ℕ → A → Bool) (d : A) (l : List A) → T (every f 0 l) → (k : ℕ) → k < length l → T (f k (getD l k d))
 every-at f d l t k h = subst (λ (m : ℕ). T (f m (getD l k d))) (zero-add k) (from f d l 0 t k h)
 
--- an entry has a number, and what has a number is an entry
+-- an entry has a number
 pub number-of : {A : Type 0} (d : A) (l : List A) {x : A} → List·Memᴰ x l → (k : ℕ) × (k < length l) × (x ≡ getD l k d)
 number-of d [] m = absurd (List·Memᴰ·not-nil m)
 number-of d (y ∷ ys) m = ⊎-elim (λ e. (0, omega arith, e)) (λ n. let (k, h, e) = number-of d ys n in (suc k, omega arith, e)) (List·Memᴰ·cases-cons m)
-
-pub entry-at : {A : Type 0} (d : A) (l : List A) (k : ℕ) → k < length l → List·Memᴰ (getD l k d) l
-entry-at d [] k h = absurd (not-suc-le-zero h)
-entry-at d (y ∷ ys) zero h = List·Memᴰ·head refl
-entry-at d (y ∷ ys) (suc k) h = List·Memᴰ·tail (entry-at d ys k (le-of-suc-le-suc h))
 
 -- ---- equality of lists
 abbrev pub eqList : List ℕ → List ℕ → Bool
@@ -50,6 +46,10 @@ eq-list [] [] h = refl
 eq-list [] (b ∷ t) h = absurd h
 eq-list (a ∷ s) [] h = absurd h
 eq-list (a ∷ s) (b ∷ t) h = let (e, r) = and-yes (eqb a b) (eqList s t) h in ap₂ (λ (x : ℕ) (l : List ℕ). x ∷ l) (eqb→eq a b e) (eq-list s t r)
+
+pub list-eq : (s : List ℕ) → eqList s s ≡ true
+list-eq [] = refl
+list-eq (a ∷ s) = rw (eq-eqb a a refl) (list-eq s)
 
 -- ---- Entries with a name
 

@@ -1,0 +1,30 @@
+-- `ncal::of_five` meets its promise: name after name, in the order of the table.
+-- Assumes nothing.
+use borrow.Author.Needs.{needs}
+use Rattle.whole.specs.Text.{bytes}
+use Rattle.ncal.specs.Table.{table}
+use Rattle.ncal.specs.Laws.{after}
+use Rattle.ncal.proofs.of_five.Statement.{statement}
+use Rattle.ncal.proofs.of_five.Tie as tie
+
+returns : tie.Need-returns
+unfolding table bytes
+returns c =
+    after _ _ (c .or4 .ensures)
+    (after _ _ (c .before .before .or3 .ensures)
+    (after _ _ (c .before .before .before .before .or2 .ensures)
+    (c .before .before .before .before .before .before .or .ensures)))
+
+pub of-five-spec : {M : Type 1} → statement M
+of-five-spec =
+    tie.close
+    (tie.spec
+    (λ c. search needs)
+    (λ c κs. search needs)
+    (λ c. search needs)
+    (λ c κs. search needs)
+    (λ c. search needs)
+    (λ c κs. search needs)
+    (λ c. search needs)
+    (λ c κs. search needs)
+    returns)
