@@ -21,8 +21,8 @@ use Rattle.ncal.specs.Table.{Row, row, table}
 use Rattle.ncal.specs.Promise.{NamesCalendar, unknownName, of-row}
 use Rattle.ncal.specs.Search.{orRow, orRows, among, ofLength}
 
-impossible : _≡_ {A = ℕ} 0 1 → ⊥
-impossible z = omega arith
+pub nought : _≡_ {A = ℕ} 0 1 → ⊥
+nought z = omega arith
 
 -- ---- What a row says of a name
 equal : (s t : List ℕ) → s ≡ t → eqList s t ≡ true
@@ -53,9 +53,12 @@ after s r e d = e ∙ ap (λ (f : Found). orRow s f r) d
 same-length : (s : List ℕ) (f : Found) (rows : List Row) → orRows s f (ofLength (length s) rows) ≡ orRows s f rows
 same-length s f [] = refl
 same-length s f (r ∷ rows) = ⊎-elim
-    (λ e. ap (λ (b : Bool). orRows s f (cond b (r ∷ ofLength (length s) rows) (ofLength (length s) rows))) e ∙ same-length s (orRow s f r) rows)
-    (λ e. ap (λ (b : Bool). orRows s f (cond b (r ∷ ofLength (length s) rows) (ofLength (length s) rows))) e ∙ same-length s f rows ∙ ap (λ (g : Found). orRows s g rows) (sym (other-row s f r (λ q. eqb-false _ _ e (sym (ap length q))))))
+    (λ e. picked true e ∙ same-length s (orRow s f r) rows)
+    (λ e. picked false e ∙ same-length s f rows ∙ ap (λ (g : Found). orRows s g rows) (sym (other-row s f r (λ q. eqb-false _ _ e (sym (ap length q))))))
     (true-or-false (eqb (length (r .name)) (length s)))
+  where
+    picked : (b : Bool) → eqb (length (r .name)) (length s) ≡ b → orRows s f (ofLength (length s) (r ∷ rows)) ≡ orRows s f (cond b (r ∷ ofLength (length s) rows) (ofLength (length s) rows))
+    picked b e = ap (λ (b : Bool). orRows s f (cond b (r ∷ ofLength (length s) rows) (ofLength (length s) rows))) e
 
 pub in-group : (s : List ℕ) (n : ℕ) {f : Found} → f ≡ among s (ofLength n table) → length s ≡ n → f ≡ among s table
 in-group s n {f} e l = subst (λ (m : ℕ). f ≡ among s (ofLength m table)) (sym l) e ∙ same-length s Found′.Nothing table
@@ -86,7 +89,7 @@ no-row l ns e (r ∷ rows) t =
     let (a, b) = and-yes (isOne (length (r .name)) ns) _ t in
     rw (ne-eqb (length (r .name)) l (λ q. subst T e (subst (λ (m : ℕ). T (isOne m ns)) q a))) (no-row l ns e rows b)
 
-pub in-no-group : (s : List ℕ) (ns : List ℕ) → T (lengthsIn ns table) → NoneOf (length s) ns → Found′.Nothing ≡ among s table
+pub in-no-group : (s ns : List ℕ) → T (lengthsIn ns table) → NoneOf (length s) ns → Found′.Nothing ≡ among s table
 in-no-group s ns t h = ap (λ (rows : List Row). among s rows) (sym (no-row (length s) ns (none-of (length s) ns h) table t)) ∙ same-length s Found′.Nothing table
 
 -- ---- What is found is promised
@@ -98,7 +101,7 @@ module _ (s : List ℕ) where
   found-later r rows n = ap (λ (f : Found). orRows s f rows) (other-row s Found′.Nothing r n)
 
   found-in : (c : Calendar) (rows : List Row) → among s rows ≡ Found′.Calendar c → List·Memᴰ (row s c) rows
-  found-in c [] e = let z : _≡_ {A = ℕ} 0 1 = cc in absurd (impossible z)
+  found-in c [] e = let z : _≡_ {A = ℕ} 0 1 = cc in absurd (nought z)
   found-in c (r ∷ rows) e = ⊎-elim
       (λ q. let i : c ≡ r .calendar = cc (found-first r rows q) in List·Memᴰ·head (ap₂ row q i))
       (λ n. List·Memᴰ·tail (found-in c rows (sym (found-later r rows n) ∙ e)))
@@ -107,7 +110,7 @@ module _ (s : List ℕ) where
   not-in : {c : Calendar} (rows : List Row) → among s rows ≡ Found′.Nothing → List·Memᴰ (row s c) rows → ⊥
   not-in [] e m = List·Memᴰ·not-nil m
   not-in (r ∷ rows) e m = ⊎-elim
-      (λ q. let z : _≡_ {A = ℕ} 0 1 = cc (found-first r rows q) in impossible z)
+      (λ q. let z : _≡_ {A = ℕ} 0 1 = cc (found-first r rows q) in nought z)
       (λ n. ⊎-elim (λ w. n (ap (λ (t : Row). t .name) w)) (λ w. not-in rows (sym (found-later r rows n) ∙ e) w) (List·Memᴰ·cases-cons m))
       (same-or-other s (r .name))
 

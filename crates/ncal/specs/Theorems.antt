@@ -25,6 +25,7 @@ use Rattle.calendar.specs.declared.Reformed.the-variants as Reformed′
 use Rattle.ncal.specs.Table.{Row, row, table}
 use Rattle.ncal.specs.Promise.{InTable, OfRow, of-row, NamesCalendar}
 use Rattle.ncal.specs.Every.{every, every-at, number-of, distinct}
+use Rattle.ncal.specs.Laws.{nought}
 
 -- ---- Rows by number
 
@@ -89,9 +90,6 @@ unfolding rowInRange inRange table
 table-accepted m =
     let (k, h, e) = row-of m in
     subst Accepted (ap (λ (r : Row). r .calendar) (sym e)) (range-accepted (rowAt k .calendar) (at-row rowInRange tt k h))
-
-nought : _≡_ {A = ℕ} 0 1 → ⊥
-nought z = omega arith
 
 -- and so is every calendar that a name is answered with
 pub named-accepted : {s : List ℕ} {a : Reformed} → NamesCalendar s a → {c : Calendar} → a ≡ Reformed′.Calendar c → Accepted c

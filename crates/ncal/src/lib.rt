@@ -1,14 +1,12 @@
 // The calendars of the countries that `ncal` knows, and calendars by name.
 
 ghost use mathlib.Core.Path.{_≡_};
-ghost use Rattle.ncal.specs.Table.{table};
+ghost use Rattle.ncal.specs.Table.{row, table};
 ghost use Rattle.ncal.specs.Promise.{NamesCalendar};
-ghost use Rattle.ncal.specs.Search.{orRow, among, ofLength};
-ghost use Rattle.ncal.specs.Table.{row};
+ghost use Rattle.ncal.specs.Search.{Says, orRow, among, ofLength};
 use calendar::Calendar;
 use calendar::Reformed;
 use calendar::refusal_of;
-use check::same;
 
 // ---- For each country the calendar that is reforming at its first Gregorian day, with that date and the last Julian one
 
@@ -254,4 +252,21 @@ fn of_fourteen(name: &[u8]) -> Found
     Found::Nothing
         .or(name, b"CZECH_REPUBLIC", CZECH_REPUBLIC)
         .or(name, b"UNITED_KINGDOM", UNITED_KINGDOM)
+}
+
+// Byte by byte.
+fn same(name: &[u8], own: &[u8]) -> bool
+    ensures { λ r. ⌜ Says (now (name .entry) ≡ now (own .entry)) r ⌝ }
+{
+    if name.len() != own.len() {
+        return false;
+    }
+    let mut i = 0;
+    while i < own.len() {
+        if name[i] != own[i] {
+            return false;
+        }
+        i += 1;
+    }
+    true
 }

@@ -1,7 +1,6 @@
 -- `ncal::by_length` meets its promise: rows of other lengths do not have the name.
 -- Assumes nothing.
 use mathlib.Core.List.{[], _∷_}
-use borrow.Author.Needs.{needs}
 use Rattle.whole.specs.Text.{bytes}
 use Rattle.ncal.specs.Table.{table}
 use Rattle.ncal.specs.Laws.{in-group, in-no-group}
@@ -43,15 +42,15 @@ pub by-length-spec : {M : Type 1} → statement M
 by-length-spec =
     tie.close
     (tie.spec
-    (λ c κs. search needs)
-    (λ c κs. search needs)
-    (λ c κs. search needs)
-    (λ c κs. search needs)
-    (λ c κs. search needs)
-    (λ c κs. search needs)
-    (λ c κs. search needs)
-    (λ c κs. search needs)
-    (λ c κs. search needs)
+    (λ c κs. tt)
+    (λ c κs. tt)
+    (λ c κs. tt)
+    (λ c κs. tt)
+    (λ c κs. tt)
+    (λ c κs. tt)
+    (λ c κs. tt)
+    (λ c κs. tt)
+    (λ c κs. tt)
     returns
     returns-2
     returns-3
