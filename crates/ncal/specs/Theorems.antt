@@ -1,10 +1,9 @@
 -- The names are distinct, the promise allows one result, and every calendar of the table is accepted.
 -- Assumes nothing.
-use mathlib.Core.Path.{_≡_, refl, sym, _∙_, ap, subst}
+use mathlib.Core.Path.{_≡_, sym, _∙_, ap, subst}
 use mathlib.Core.Bool.{Bool, true, _&&_}
 use mathlib.Core.List.{List, []}
 use Prim.Native.Nat.{ℕ, _<_}
-use native.Mathlib.Omega.{arith}
 use lib.Dec.{T}
 use lib.IntN.{ℤ, pos}
 use lib.ListN.{length, getD}
@@ -33,26 +32,26 @@ use Rattle.ncal.specs.Laws.{nought}
 abbrev pub rowAt : ℕ → Row
 rowAt i = getD table i (row [] Julian)
 
-rows : length table ≡ 36
-unfolding table
-rows = refl
+at-row : (f : ℕ → Row → Bool) → T (every f 0 table) → (i : ℕ) → i < length table → T (f i (rowAt i))
+at-row f = every-at f (row [] Julian) table
 
-at-row : (f : ℕ → Row → Bool) → T (every f 0 table) → (i : ℕ) → i < 36 → T (f i (rowAt i))
-at-row f t i h = every-at f (row [] Julian) table t i (omega (arith, rows))
+row-of : {s : List ℕ} {c : Calendar} → InTable s c → (i : ℕ) × (i < length table) × (row s c ≡ rowAt i)
+row-of = number-of (row [] Julian) table
 
-row-of : {s : List ℕ} {c : Calendar} → InTable s c → (i : ℕ) × (i < 36) × (row s c ≡ rowAt i)
-row-of m = let (i, h, e) = number-of (row [] Julian) table m in (i, omega (arith, rows), e)
+distinct-names : (j k : ℕ) → j < length table → k < length table → rowAt j .name ≡ rowAt k .name → j ≡ k
+unfolding table bytes
+distinct-names = distinct (λ (r : Row). r .name) (row [] Julian) table tt
 
 pub names-distinct : (j k : ℕ) → j < 36 → k < 36 → rowAt j .name ≡ rowAt k .name → j ≡ k
-unfolding table bytes
-names-distinct j k g h = distinct (λ (r : Row). r .name) (row [] Julian) table tt j k g h
+unfolding table
+names-distinct = distinct-names
 
 -- ---- One result
 one-row : {s : List ℕ} {b c : Calendar} → InTable s b → InTable s c → b ≡ c
 one-row p q =
     let (j, g, d) = row-of p in
     let (k, h, e) = row-of q in
-    let i : j ≡ k = names-distinct j k g h (ap (λ (r : Row). r .name) (sym d) ∙ ap (λ (r : Row). r .name) e) in
+    let i : j ≡ k = distinct-names j k g h (ap (λ (r : Row). r .name) (sym d) ∙ ap (λ (r : Row). r .name) e) in
     ap (λ (r : Row). r .calendar) d ∙ ap (λ (l : ℕ). rowAt l .calendar) i ∙ ap (λ (r : Row). r .calendar) (sym e)
 
 of-row-one : (s : List ℕ) → One (OfRow s)
