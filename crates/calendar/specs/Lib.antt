@@ -9,3 +9,4 @@ pub mod Natural
 pub mod Laws
 pub mod InMonth
 pub mod Theorems
+pub mod Answered

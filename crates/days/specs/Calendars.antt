@@ -2,7 +2,7 @@
 -- Assumes nothing.
 use mathlib.Core.Path.{_≡_, refl, sym, _∙_, subst₂}
 use mathlib.Core.List.{[]}
-use mathlib.Core.Logic.{_⊎_, inl, inr, ⊎-elim}
+use mathlib.Core.Logic.{⊎-elim}
 use lib.IntN.{ℤ, pos, _-ℤ_}
 use lib.Signed.{_<ℤ_, _≤ℤ_, ≤ℤ-refl}
 use Rattle.whole.specs.Integers.{lt-or-ge, back-lt}
@@ -28,9 +28,6 @@ module _ (r : ℤ) {n : ℤ} where
 
   pub reforming-from : r ≤ℤ n → (labels (Reforming r) n ≡ labelOf gregorian n) × (style (Reforming r) n ≡ GregorianStyle)
   reforming-from h = in-era (timeline (Reforming r)) n (era-from julianEra (record { on = r; era = gregorianEra }) [] h)
-
-pub reforming-either : (r n : ℤ) → (labels (Reforming r) n ≡ labelOf julian n) ⊎ (labels (Reforming r) n ≡ labelOf gregorian n)
-reforming-either r n = ⊎-elim (λ h. inl (reforming-below r h .0)) (λ h. inr (reforming-from r h .0)) (lt-or-ge n r)
 
 pub reforming-labels : (r n : ℤ) → labels (Reforming r) n ≡ splice r (labelOf julian) (labelOf gregorian) n
 reforming-labels r n = ⊎-elim

@@ -17,6 +17,7 @@ pub mod Numbers
 pub mod Reckonings
 pub mod Timelines
 pub mod Places
+pub mod Decided
 pub mod Calendars
 pub mod Reformations
 pub mod Table

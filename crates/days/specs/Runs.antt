@@ -4,7 +4,7 @@
 -- Assumes nothing.
 use mathlib.Core.Path.{_≡_, refl, sym, _∙_, ap, subst, subst₂}
 use mathlib.Core.Bool.{Bool, cond}
-use mathlib.Core.Logic.{_⊎_, inl, inr, ⊎-elim}
+use mathlib.Core.Logic.{⊎-elim}
 use Prim.Native.Nat.{ℕ, _+_, _-_, _/_, _<_, _≤_}
 use native.Mathlib.Omega.{arith}
 use native.Mathlib.Numerals.{add-one}
@@ -27,7 +27,8 @@ use Rattle.days.specs.Julian as J
 use Rattle.days.specs.Gregorian as G
 use Rattle.days.specs.Numbers.{There, number, numbered, there, daysBefore, within-year, month-first, month-past}
 use Rattle.days.specs.Reckonings.{julian-rises, gregorian-rises}
-use Rattle.days.specs.Calendars.{reforming-below, reforming-from, reforming-either, accepted-rises, labels-proper}
+use Rattle.days.specs.Timelines.{either-reckoning}
+use Rattle.days.specs.Calendars.{reforming-below, reforming-from, accepted-rises, labels-proper}
 use Rattle.days.specs.Table.{there-too, fits-only}
 
 -- no day that is looked at is held as more
@@ -38,7 +39,6 @@ pub record Runs (c : Calendar) (r : ℕ) : Type 0 where
   pub accepted : Accepted c
   pub below : (k : ℕ) → k < r → k < top → (labels c (day k) ≡ labelOf julian (day k)) × (style c (day k) ≡ JulianStyle)
   pub above : (k : ℕ) → r ≤ k → k < top → (labels c (day k) ≡ labelOf gregorian (day k)) × (style c (day k) ≡ GregorianStyle)
-  pub either : (n : ℤ) → (labels c n ≡ labelOf julian n) ⊎ (labels c n ≡ labelOf gregorian n)
   pub switches : 1 ≤ r → r < top → SwitchDay (timeline c .switches) (day r)
   -- the r of a calendar that is never Gregorian is top itself, and nothing above it
   pub most : r ≤ top
@@ -52,7 +52,6 @@ julian-runs = record {
   accepted = julian-accepted;
   below = λ k h t. (refl, refl);
   above = λ k h t. absurd (never-below k top h t);
-  either = λ n. inl refl;
   switches = λ h t. absurd (never-below top top (omega arith) t);
   most = le-refl top;
 }
@@ -62,7 +61,6 @@ gregorian-runs = record {
   accepted = gregorian-accepted;
   below = λ k h t. absurd (never-below k 0 (omega arith) h);
   above = λ k h t. (refl, refl);
-  either = λ n. inr refl;
   switches = λ h t. absurd (never-below 0 1 h (omega arith));
   most = omega arith;
 }
@@ -72,7 +70,6 @@ reforming-runs r a = record {
   accepted = reforming-accepted a;
   below = λ k h t. reforming-below (day r) (unbias-up dayBias h);
   above = λ k h t. reforming-from (day r) (unbias-le dayBias r k h);
-  either = reforming-either (day r);
   switches = λ h t. this;
   most = omega (arith, fits-only r (a .julian-day-fits));
 }
@@ -112,7 +109,7 @@ module _ {c : Calendar} {r : ℕ} (runs : Runs c r) where
       let (i, f, g, u) = early (day k) (sym (runs .above k h t .0) ∙ ap (labels c) (sym d) ∙ e) in never k i (unbias-injective dayBias k i f) h g)
       (λ q. let (k, d, h, t) = early n (sym q ∙ e) in
       let (i, f, g, u) = late (day k) (sym (runs .below k h t .0) ∙ ap (labels c) (sym d) ∙ e) in never i k (sym (unbias-injective dayBias k i f)) g h)
-      (runs .either n)
+      (either-reckoning (timeline c) n)
     where
       never : (k i : ℕ) → k ≡ i → r ≤ k → i < r → ⊥
       never k i e h g = omega arith

@@ -45,6 +45,14 @@ module _ (e : Era) (s : Switch) (l : List Switch) {n : ℤ} where
 pub in-era : (t : Timeline) (n : ℤ) {e : Era} → era t n ≡ e → (labelsIn t n ≡ counted (e .counts) n) × (styleIn t n ≡ e .style)
 in-era t n e = (ap (λ (x : Era). counted (x .counts) n) e, ap (λ (x : Era). x .style) e)
 
+-- so the label is the Julian or the Gregorian one
+pub either-reckoning : (t : Timeline) (n : ℤ) → (labelsIn t n ≡ labelOf julian n) ⊎ (labelsIn t n ≡ labelOf gregorian n)
+either-reckoning t n = by (era t n .counts)
+  where
+    by : (w : Counts) → (counted w n ≡ labelOf julian n) ⊎ (counted w n ≡ labelOf gregorian n)
+    by JulianLabels = inl refl
+    by GregorianLabels = inr refl
+
 -- from day n to the next there is a switch, or the era goes on
 goes : (e : Era) (l : List Switch) (n : ℤ) → SwitchDay l (sucℤ n) ⊎ (eraFrom e l n ≡ eraFrom e l (sucℤ n))
 goes e [] n = inr refl

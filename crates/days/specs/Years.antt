@@ -1,8 +1,8 @@
 -- The years of the 32-bit days: from -5884323 to 5874898 in every accepted calendar, by the labels of the first and the last of them. So every
 -- accepted calendar is a timeline that rises.
 -- Assumes nothing.
-use mathlib.Core.Path.{_≡_, refl, sym, _∙_, ap, subst}
-use mathlib.Core.Logic.{_⊎_, inl, inr, ⊎-elim}
+use mathlib.Core.Path.{_≡_, sym, _∙_, ap, subst}
+use mathlib.Core.Logic.{⊎-elim}
 use Prim.Native.Nat.{_<_}
 use native.Mathlib.Omega.{arith}
 use lib.Dec.{leb→le}
@@ -10,15 +10,11 @@ use lib.IntN.{ℤ, pos, negsuc, natAbs, _-ℤ_}
 use lib.Signed.{_≤ℤ_, leZ-yes}
 use Rattle.whole.specs.Edge.{fits-from, fits-to, fits-between}
 use Rattle.whole.specs.Integers.{le-trans, back-lt}
-use Rattle.days.specs.DayByDay.{Label, labelOf, julian, gregorian, Calendar, Julian, Gregorian, Reforming, timeline, labels, Accepted, julian-accepted, gregorian-accepted, reforming-accepted, Is32Bit, InOrder, Rising}
+use Rattle.days.specs.DayByDay.{Label, Calendar, timeline, labels, Accepted, julian-accepted, gregorian-accepted, reforming-accepted, Is32Bit, InOrder, Rising}
 use Rattle.days.specs.Rising.{no-earlier-year}
-use Rattle.days.specs.Calendars.{reforming-either, accepted-rises}
+use Rattle.days.specs.Timelines.{either-reckoning}
+use Rattle.days.specs.Calendars.{accepted-rises}
 use Rattle.days.specs.KnownDays.{known-days}
-
-either-reckoning : (c : Calendar) (n : ℤ) → (labels c n ≡ labelOf julian n) ⊎ (labels c n ≡ labelOf gregorian n)
-either-reckoning Julian = λ n. inl refl
-either-reckoning Gregorian = λ n. inr refl
-either-reckoning (Reforming r) = reforming-either r
 
 abbrev year-is : {l m : Label} → l ≡ m → l .year ≡ m .year
 year-is e = ap (λ (l : Label). l .year) e
@@ -30,7 +26,7 @@ year-from {c} {n} a f = le-trans least (no-earlier-year (accepted-rises a) (fits
     least = ⊎-elim
         (λ e. subst (λ (y : ℤ). negsuc 5_884_322 ≤ℤ y) (sym (year-is (e ∙ known-days .least-julian .0))) (leZ-yes tt))
         (λ e. subst (λ (y : ℤ). negsuc 5_884_322 ≤ℤ y) (sym (year-is (e ∙ known-days .least-gregorian .0))) (leZ-yes tt))
-        (either-reckoning c (negsuc 2_147_483_647))
+        (either-reckoning (timeline c) (negsuc 2_147_483_647))
 
 pub year-to : {c : Calendar} {n : ℤ} → Accepted c → Is32Bit n → (labels c n .year) ≤ℤ pos 5_874_898
 year-to {c} {n} a f = le-trans (no-earlier-year (accepted-rises a) (fits-to f)) greatest
@@ -39,7 +35,7 @@ year-to {c} {n} a f = le-trans (no-earlier-year (accepted-rises a) (fits-to f)) 
     greatest = ⊎-elim
         (λ e. subst (λ (y : ℤ). y ≤ℤ pos 5_874_898) (sym (year-is (e ∙ known-days .greatest-julian .0))) (leZ-yes tt))
         (λ e. subst (λ (y : ℤ). y ≤ℤ pos 5_874_898) (sym (year-is (e ∙ known-days .greatest-gregorian .0))) (leZ-yes tt))
-        (either-reckoning c (pos 2_147_483_647))
+        (either-reckoning (timeline c) (pos 2_147_483_647))
 
 -- so it is of 32 bits, and has at most seven digits
 pub year-fits : {y : ℤ} → negsuc 5_884_322 ≤ℤ y → y ≤ℤ pos 5_874_898 → Is32Bit y
