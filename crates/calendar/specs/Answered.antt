@@ -1,4 +1,4 @@
--- In any timeline that rises the rows have an answer for every date of a 32-bit year: for every year, month and day, and for every year and ordinal.
+-- In any timeline that rises, every date of a 32-bit year has an answer: every year, month and day, and every year and ordinal.
 -- Assumes nothing.
 use mathlib.Core.Path.{_≡_, subst}
 use mathlib.Core.Logic.{_⊎_, inl, inr, ⊎-elim}
@@ -32,7 +32,7 @@ module _ (t : Timeline) (r : Rising t) (c : Calendar) where
         l = label y m d
 
         month-or-not : Decided (Month m)
-        month-or-not = ⊎-elim (λ h. ⊎-elim (λ k. inl (h, omega arith)) (λ k. inr (λ v. omega arith)) (N.lt-or-ge m 13)) (λ h. inr (λ v. omega arith)) (N.lt-or-ge 0 m)
+        month-or-not = ⊎-elim (λ h. ⊎-elim (λ k. inl (omega arith, omega arith)) (λ k. inr (λ v. omega arith)) (N.lt-or-ge m 13)) (λ h. inr (λ v. omega arith)) (N.lt-or-ge 0 m)
 
         by-label : (a : Dated) × ByLabelIn t c y m d a
         by-label = ⊎-elim

@@ -1,16 +1,18 @@
 -- What is written of a date belongs to the grammar of date texts, and is read back.
 -- Assumes nothing.
-use Prim.Native.Nat.{ℕ, _<_, _^_}
+use Prim.Native.Nat.{ℕ, zero, suc, _<_, _^_}
 use mathlib.Core.Path.{_≡_}
 use mathlib.Core.List.{List}
 use native.Mathlib.Omega.{arith}
 use lib.ListN.{take}
-use lib.IntN.{ℤ}
+use lib.IntN.{ℤ, natAbs}
 use mir.Syntax.{w32}
 use mir.Val.{SFits}
 use Rattle.numbertext.specs.Numerals.{Unsigned, Signed}
 use Rattle.decimals.specs.Decimal.{Decimal}
+use Rattle.decimals.specs.Decimals.{has-width}
 use Rattle.writer.specs.Writing.{WholeDecimal, YmdDecimal, WriteYmd}
+use Rattle.writer.specs.Puts.{ymd-text}
 use Rattle.writer.specs.Theorems.{written-front}
 use Rattle.writer.specs.declared.Written.{Written}
 use Rattle.datetext.specs.Grammar.{Month, YmdText, ReadDate}
@@ -23,6 +25,17 @@ unsigned-text d h = record { numeral = d .numeral; fits = h }
 signed-text : {p : List ℕ} {y : ℤ} → WholeDecimal p y → SFits w32 y → Signed p y
 signed-text (WholeDecimal.not-negative d) f = Signed.plain (d .numeral) (f .sfits)
 signed-text (WholeDecimal.negative d) f = Signed.with-dash (d .numeral) (omega (arith, f .sfits))
+
+-- a signed number in text is of 32 bits
+pub signed-fits : {p : List ℕ} {y : ℤ} → Signed p y → SFits w32 y
+signed-fits (Signed.plain n h) = record { sfits = h }
+signed-fits (Signed.with-plus n h) = record { sfits = h }
+signed-fits (Signed.with-dash {n = zero} x h) = record { sfits = omega arith }
+signed-fits (Signed.with-dash {n = suc n} x h) = record { sfits = omega arith }
+
+-- every year, month and day has a text
+pub has-text : (y : ℤ) (m d : ℕ) → (u : List ℕ) × YmdDecimal u y m d
+has-text y m d = let (i, p) = has-width (natAbs y) in let (j, q) = has-width m in let (k, r) = has-width d in (_, ymd-text y m d i j k p q r)
 
 -- a year of 32 bits, a month 1 to 12 and a day of 32 bits, as they are written
 module _ {t : List ℕ} {y : ℤ} {m d : ℕ} (w : YmdDecimal t y m d) (f : SFits w32 y) (mo : Month m) (h : d < 2 ^ 32) where

@@ -2,6 +2,7 @@
 -- Assumes nothing.
 use mathlib.Core.Path.{_≡_, refl, sym, _∙_, ap, subst}
 use mathlib.Core.List.{List}
+use mathlib.Core.Logic.{⊎-elim}
 use Prim.Native.Nat.{ℕ, _≤_}
 use native.Mathlib.Omega.{arith}
 use lib.IntN.{ℤ, pos, negsuc}
@@ -20,14 +21,15 @@ use Rattle.calendar.specs.Calendars.{timeline, Accepted, IsRecordIn, IsRecord, 
 use Rattle.calendar.specs.Rows.{One, passes, passed, unless-one}
 use Rattle.calendar.specs.Promise.{YmdIn, OrdinalIn}
 use Rattle.calendar.specs.One.{record-one, ymd-in-one, ordinal-in-one}
-use Rattle.calendar.specs.Theorems.{IsRecordOfIn, ymd-in-accepts, ymd-in-only, ordinal-in-accepts, ordinal-in-only}
+use Rattle.calendar.specs.Theorems.{IsRecordOfIn, ymd-in-accepts, ymd-in-only, ordinal-in-accepts, ordinal-in-only, has-record}
+use Rattle.calendar.specs.Answered.{ymd-answered, ordinal-answered}
 use Rattle.writer.specs.Writing.{YmdDecimal}
 use Rattle.writer.specs.Theorems as W
 use Rattle.writer.specs.declared.Written.{Written}
-use Rattle.datetext.specs.Grammar.{Month, YmdText}
+use Rattle.datetext.specs.Grammar.{Month, OrdinalText, YmdText}
 use Rattle.datetext.specs.Theorems as T
 use Rattle.dateparse.specs.EveryText.{Says, says-ymd, says-ordinal, EveryText}
-use Rattle.dateparse.specs.ReadBack.{written-writes}
+use Rattle.dateparse.specs.ReadBack.{signed-fits, has-text, written-writes}
 use Rattle.dateparse.specs.Promise.{placedAt, ByTextIn, ByText, by-fault, by-ordinal, by-ymd, ParseDate, WriteDate}
 
 -- ---- Each promise allows one result
@@ -119,13 +121,34 @@ module _ (t : Timeline) (r : Rising t) (c : Calendar) {n : ℤ} {d : Date} (f : 
       let (k, x) = written-writes w (of-day (λ (l : Label). Is32Bit (l .year)) (r .year-fits n f)) month-is (omega (arith, day-most)) in
       let (b, e, j) = accepts t r c f (says-ymd x (i .label-is)) p in e ∙ ap Dated′.Date (record-one j i)
 
+-- ---- Every text has an answer
+module _ (t : Timeline) (r : Rising t) (c : Calendar) where
+  ordinal-text-answered : {s : List ℕ} {y : ℤ} {o k : ℕ} → OrdinalText s y o k → (a : Dated) × ByTextIn t c s a
+  ordinal-text-answered (OrdinalText.ordinal {n = o} p q) = let (a, g) = ordinal-answered t r c (signed-fits p) o in (_, by-ordinal (OrdinalText.ordinal p q) g)
+
+  ymd-text-answered : {s : List ℕ} {y : ℤ} {m d k : ℕ} → YmdText s y m d k → (a : Dated) × ByTextIn t c s a
+  ymd-text-answered (YmdText.ymd {m} {d} p q mo i) = let (a, g) = ymd-answered t r c (signed-fits p) m d in (_, by-ymd (YmdText.ymd p q mo i) g)
+
+  text-answered : (s : List ℕ) → (a : Dated) × ByTextIn t c s a
+  text-answered s = ⊎-elim by (λ (f, q). (Dated′.Refused f, by-fault q)) (T.belongs-or-faulty s)
+    where
+      by : T.Belongs s → (a : Dated) × ByTextIn t c s a
+      by (T.Belongs.by-ordinal p) = ordinal-text-answered p
+      by (T.Belongs.by-day p) = ymd-text-answered p
+
 -- ---- Demand 3: any timeline that rises
 pub every-text : (t : Timeline) → Rising t → (c : Calendar) → EveryText t c (ByTextIn t c)
 every-text t r c = record {
+  answered = text-answered t r c;
   accepted = accepts t r c;
   only-there = accepted-only t r c refl;
   one-day = one-day t r c;
   one-date = λ {s} {a} {b}. by-text-one {t = t} (rising-rises r) c s a b;
+  one-way = T.one-way;
+  one-ordinal = T.one-ordinal;
+  one-ymd = T.one-ymd;
+  recorded = λ {n} f. has-record t r c n;
+  written = λ {n} {d} f i. has-text (d .year) (d .month) (d .day);
   reads-back = λ f i. reads-back t r c f i;
 }
 
@@ -134,10 +157,16 @@ pub every-calendar : (c : Calendar) → Accepted c → EveryText (timeline c) c 
 every-calendar c acc =
     let e : EveryText (timeline c) c (ByText c) = every-text (timeline c) (accepted-rising acc) c in
     record {
+      answered = λ s. let (a, p) = e .answered s in (a, passes acc p);
       accepted = λ f p q. e .accepted f p (passed acc q);
       only-there = λ q. e .only-there (passed acc q);
       one-day = e .one-day;
       one-date = λ p q. e .one-date (passed acc p) (passed acc q);
+      one-way = e .one-way;
+      one-ordinal = e .one-ordinal;
+      one-ymd = e .one-ymd;
+      recorded = e .recorded;
+      written = e .written;
       reads-back = λ f i w q. e .reads-back f i w (passed acc q);
     }
 

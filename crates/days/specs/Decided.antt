@@ -1,5 +1,5 @@
--- What is decided: which of two labels is earlier; of a label of a 32-bit year, in any timeline that rises, whether a day bears it and whether
--- it is skipped; and which days a 32-bit year has there. Day by day, between a day before the year and one after it.
+-- What is decided of labels: which of two is earlier; and, of a label of a 32-bit year, whether a day of a timeline that rises bears it, and
+-- whether it is skipped. The search goes day by day, from a day before the year to one after it, and finds the days of the year too.
 -- Assumes nothing.
 use mathlib.Core.Path.{_≡_, refl, sym, _∙_, ap, subst}
 use mathlib.Core.Bool.{Bool}
@@ -41,7 +41,7 @@ same-or-not l m = ⊎-elim (λ h. inr (λ e. ≺-irrefl (subst (λ (x : Label). 
 
 -- ---- The first day whose label is not before l
 module _ {f : ℤ → Label} (up : Rises f) {l : Label} where
-  -- there is one after a day a whose label is before l, where the label of some day b is not
+  -- there is one if the label of some day a is before l and that of some day b is not
   search-on : (k a b : ℕ) → b ≤ a + k → f (day a) ≺ l → ¬ (f (day b) ≺ l) → (i : ℕ) × (1 ≤ i) × First f l (day i)
   search-on zero a b h p q = absurd (q (no-later up (unbias-le dayBias b a (omega arith)) p))
   search-on (suc k) a b h p q = ⊎-elim
@@ -49,15 +49,15 @@ module _ {f : ℤ → Label} (up : Rises f) {l : Label} where
       (λ g. (a + 1, omega arith, first-by up (subst (λ (z : ℤ). f z ≺ l) (sym (unbias-sub dayBias a 1)) p) g))
       (earlier-or-not (f (day (a + 1))) l)
 
-  -- no other day is the first
+  -- and no two
   no-sooner : {a b : ℤ} → First f l a → First f l b → a ≤ℤ b
   no-sooner {a} {b} p q = ⊎-elim (λ h. absurd (q .not-earlier b (eq-le refl) (p .earlier b h))) (λ h. h) (lt-or-ge b a)
 
-  -- so it is decided whether a day bears l
+  -- only this day can bear l
   borne-by : {a : ℤ} → First f l a → Decided (Borne f l)
   borne-by {a} p = ⊎-elim (λ e. inl (a, e)) (λ x. inr (λ b. x (ap f (antisym (no-sooner p (first-at up (b .1))) (no-sooner (first-at up (b .1)) p)) ∙ b .1))) (same-or-not (f a) l)
 
--- ---- The years of a reckoning's days, by its first days of years
+-- ---- The year of a day of one reckoning is no later than y up to the first day of y, and no earlier from it on
 module _ {c : Reckoning} {leapAt : ℕ → Bool} {start : ℕ → ℕ} (s : Starts c leapAt start) (k y : ℕ) where
   start-year : labelOf c (day (start y)) .year ≡ year y
   start-year = ap (λ (l : Label). l .year) (start-right s y)
@@ -77,7 +77,7 @@ module _ {f : ℤ → Label} (up : Rises f) (either : (n : ℤ) → (f n ≡ lab
   of-either : (P : ℤ → Type 0) (n : ℤ) → P (labelOf julian n .year) → P (labelOf gregorian n .year) → P (f n .year)
   of-either P n p q = ⊎-elim (λ e. subst (λ (l : Label). P (l .year)) (sym e) p) (λ e. subst (λ (l : Label). P (l .year)) (sym e) q) (either n)
 
-  -- a label of a held year has its first day
+  -- a label of a held year has such a first day
   has-first : {l : Label} (y : ℕ) → 1 ≤ y → OfYear (year y) l → (i : ℕ) × (1 ≤ i) × First f l (day i)
   has-first {l} y h e = search-on up past 0 past (omega arith)
       (by-year (<ℤ-≤ℤ-trans (le-lt-trans low (unbias-up yearBias h)) (eq-le (sym e)))) (λ q. clashℤ next (le-trans high (le-trans (≺-year q) (eq-le e))))
@@ -97,7 +97,7 @@ module _ {f : ℤ → Label} (up : Rises f) (either : (n : ℤ) → (f n ≡ lab
   pub borne-or-not : {l : Label} → Is32Bit (l .year) → Decided (Borne f l)
   borne-or-not g = let (y, e, h) = held-year g in let (i, k, p) = has-first y (omega arith) e in borne-by up p
 
-  -- and the days of a 32-bit year are a stretch
+  -- the days of a 32-bit year
   pub year-days : ((n : ℤ) → Proper (f n)) → {z : ℤ} → Is32Bit z → (a : ℕ) × (b : ℕ) × Stretch f (OfYear z) dayBias a b
   year-days good {z} g =
       let (y, e, h) = held-year g in
@@ -105,7 +105,7 @@ module _ {f : ℤ → Label} (up : Rises f) (either : (n : ℤ) → (f n ≡ lab
       let (b, i, q) = has-first {l = label (sucℤ z) 1 1} (suc y) (omega arith) (ap sucℤ e ∙ sym (unbias-suc yearBias y)) in
       (a, b, stretch up good (year-span z) dayBias p q k)
 
--- ---- Skipped labels: going through the switches
+-- ---- Skipped labels: the switches are gone through
 switch-or-none : {P : ℤ → Type 0} → ((d : ℤ) → Decided (P d)) → (l : List Switch) → Decided ((d : ℤ) × SwitchDay l d × P d)
 switch-or-none decides [] = inr (λ s. elim (s .1) [ ])
 switch-or-none {P} decides (s ∷ l) = ⊎-elim (λ p. inl (s .on, this, p))

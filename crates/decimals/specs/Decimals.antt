@@ -223,3 +223,16 @@ counted {n} {rest} {k} c h j b l i e =
   where
     swap : (k j : ℕ) → suc j + k ≡ k + suc j
     swap k j = omega arith
+
+-- ---- every number has a width
+
+width-below : (n k : ℕ) → n < 10 ^ suc k → (j : ℕ) × Width n j
+width-below n zero h = (1, width-small n 0 h (λ g. omega arith))
+width-below n (suc k) h = ⊎-elim (λ g. width-below n k g) (λ g. (suc (suc k), width-small n (suc k) h (λ _. g))) (lt-or-ge n (10 ^ suc k))
+
+pub has-width : (n : ℕ) → (j : ℕ) × Width n j
+has-width n = width-below n n (less n)
+  where
+    less : (n : ℕ) → n < 10 ^ suc n
+    less zero = omega arith
+    less (suc n) = omega (arith, less n, pow-suc 10 (suc n))
