@@ -1,8 +1,11 @@
--- What the calls promise: the rows of the table of refusals that each can meet, in the table's order, and then its answer.
+-- What is promised of a time: its day and the seconds into it, in the words of the day-by-day definition; and what the calls promise: the rows of
+-- the table of refusals that each can meet, in the table's order, and then its answer.
+-- Assumes nothing.
 use Prim.Native.Nat.{ℕ}
 use lib.IntN.{ℤ}
-use Rattle.days.specs.DayByDay.{UnixTime}
-use Rattle.seconds.specs.Promise.{On32BitDay}
+use Rattle.days.specs.DayByDay.{Is32Bit, UnixTime}
+use Rattle.unixtime.specs.declared.seconds.DaySecond.{DaySecond}
+use Rattle.unixtime.specs.declared.seconds.DaySecond.the-variants as DaySecond′
 use Rattle.calendar.specs.declared.Calendar.{Calendar}
 use Rattle.calendar.specs.declared.Date.{Date}
 use Rattle.calendar.specs.Calendars.{Accepted, IsRecord}
@@ -12,6 +15,20 @@ use Rattle.unixtime.specs.declared.DayTime.{DayTime}
 use Rattle.unixtime.specs.declared.DayTime.the-variants as DayTime′
 use Rattle.unixtime.specs.declared.Timed.{Timed}
 use Rattle.unixtime.specs.declared.Timed.the-variants as Timed′
+
+-- the time t lies on a day of 32 bits
+pub record On32BitDay (t : ℤ) : Type 0 where
+  pub on-day : ℤ
+  pub seconds : ℕ
+  pub day-fits : Is32Bit on-day
+  pub is-time : UnixTime t on-day seconds
+
+-- day_second: the day of the time t and the seconds into it; or the time lies on no day of 32 bits
+pub data DaySecondOf (t : ℤ) : DaySecond → Type 0 where
+  at : {n : ℤ} {s : ℕ} → Is32Bit n → UnixTime t n s → DaySecondOf t (DaySecond′.At n s)
+  outside-32 : ¬ On32BitDay t → DaySecondOf t DaySecond′.Outside32
+
+-- ---- The day and the date of a time
 
 -- the day of the time t, and the seconds into it
 pub data DayTimeOf (t : ℤ) : DayTime → Type 0 where

@@ -1,12 +1,12 @@
--- `seconds::jdn2unix` meets its promise.
+-- `unixtime::seconds::jdn2unix` meets its promise.
 -- Assumes nothing.
 use mathlib.Core.Path.{_∙_}
 use Prim.Native.Nat.{_-_}
 use borrow.Author.Needs.{needs, sfits-of}
 use mir.Facts.{toZ-ofZ}
-use Rattle.seconds.specs.Laws.{day-begins}
-use Rattle.seconds.proofs.jdn2unix.Statement.{statement}
-use Rattle.seconds.proofs.jdn2unix.Tie as tie
+use Rattle.unixtime.specs.Laws.{day-begins}
+use Rattle.unixtime.proofs.seconds.jdn2unix.Statement.{statement}
+use Rattle.unixtime.proofs.seconds.jdn2unix.Tie as tie
 
 raised-requires : tie.Need-raised-requires
 raised-requires c κs = search needs

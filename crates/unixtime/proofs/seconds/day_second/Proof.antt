@@ -1,4 +1,4 @@
--- `seconds::day_second` meets its promise.
+-- `unixtime::seconds::day_second` meets its promise.
 -- Assumes nothing.
 use mathlib.Core.Path.{_≡_, refl, sym, _∙_}
 use Prim.Native.Nat.{_-_, _^_}
@@ -6,10 +6,10 @@ use native.Mathlib.Omega.{arith}
 use borrow.Author.Needs.{needs, sfits-of}
 use mir.Facts.{toZ-ofZ}
 use Rattle.whole.specs.Biased.{unbias}
-use Rattle.seconds.specs.Promise.{outside-32}
-use Rattle.seconds.specs.Laws.{time-below, time-above, held-time, day-second-at}
-use Rattle.seconds.proofs.day_second.Statement.{statement}
-use Rattle.seconds.proofs.day_second.Tie as tie
+use Rattle.unixtime.specs.Promise.{outside-32}
+use Rattle.unixtime.specs.Laws.{time-below, time-above, held-time, day-second-at}
+use Rattle.unixtime.proofs.seconds.day_second.Statement.{statement}
+use Rattle.unixtime.proofs.seconds.day_second.Tie as tie
 
 time-is : (c : tie.After-raised64) → unbias (2 ^ 63) (c .raised64 .result) ≡ c .before .args .t
 time-is c = c .raised64 .ensures ∙ toZ-ofZ (c .before .fits .t)

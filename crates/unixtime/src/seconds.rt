@@ -2,7 +2,7 @@
 // lowest day, so that a quotient is a floor on both sides of 1970.
 
 ghost use Rattle.days.specs.DayByDay.{UnixTime};
-ghost use Rattle.seconds.specs.Promise.{DaySecondOf};
+ghost use Rattle.unixtime.specs.Promise.{DaySecondOf};
 use whole::lowered;
 use whole::lowered64;
 use whole::raised;

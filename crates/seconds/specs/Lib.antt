@@ -1,6 +1,0 @@
--- The day of a time. A reader's file is `Promise`. `One` shows that a promise allows one result, and `Theorems` which times are on days of 32 bits.
--- `Laws` goes from seconds that are held as naturals to the promises.
-pub mod Promise
-pub mod Laws
-pub mod One
-pub mod Theorems
