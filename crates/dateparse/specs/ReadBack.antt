@@ -16,7 +16,8 @@ use Rattle.writer.specs.Puts.{ymd-text}
 use Rattle.writer.specs.Theorems.{written-front}
 use Rattle.writer.specs.declared.Written.{Written}
 use Rattle.datetext.specs.Grammar.{Month, YmdText, ReadDate}
-use Rattle.datetext.specs.Theorems.{Belongs, read-one}
+use Rattle.datetext.specs.One.{read-one}
+use Rattle.datetext.specs.Theorems.{Belongs}
 use Rattle.datetext.specs.declared.Text.{Text}
 
 unsigned-text : {p : List ℕ} {n : ℕ} → Decimal p n → n < 2 ^ 32 → Unsigned p n

@@ -16,7 +16,7 @@ pub fn parse_date(calendar: Calendar, text: &[u8]) -> Dated
 {
     match calendar::switch_of(calendar) {
         Switch::MadeUp => Dated::Refused(calendar::refusal_of(16, 0)),
-        Switch::At(_) => match usualtext::read_date(text) {
+        Switch::At(_) => match datetext::read_date(text) {
             Text::Refused(why) => Dated::Refused(why),
             Text::Ordinal {
                 year,

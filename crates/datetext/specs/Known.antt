@@ -10,7 +10,8 @@ use Rattle.digits.specs.Numerals.{plus, dash}
 use Rattle.digits.specs.Reading.{runFrom}
 use Rattle.numbertext.specs.Reading.{placed, readNumber, signedRun, readSigned, readDash, readEnd}
 use Rattle.datetext.specs.Grammar.{ReadDate}
-use Rattle.datetext.specs.Reading.{readText, read-meant}
+use Rattle.datetext.specs.Reading.{readText}
+use Rattle.datetext.specs.Laws.{read-meant}
 use Rattle.datetext.specs.declared.Text.{Text}
 
 -- the text `2023-`, and then u

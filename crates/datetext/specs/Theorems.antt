@@ -1,22 +1,17 @@
 -- THE THEOREMS ON THE TEXT OF A DATE.
--- Two answers that the promise of a reader allows are one. A text belongs to the grammar or has a fault, never both; it writes one date at most, in
--- one of the two ways; and it has one fault at most.
+-- A text belongs to the grammar or has a fault, never both; it writes one date at most, in one of the two ways; and it has one fault at most.
 -- Assumes nothing.
 use Prim.Native.Nat.{ℕ}
-use mathlib.Core.Path.{_≡_, sym, _∙_}
+use mathlib.Core.Path.{_≡_}
 use mathlib.Core.List.{List}
 use mathlib.Core.Logic.{_⊎_, inl, inr}
 use native.Mathlib.Omega.{arith}
 use lib.IntN.{ℤ}
 use Rattle.refusals.specs.declared.Refusal.{Refusal}
 use Rattle.datetext.specs.Grammar.{Month, OrdinalText, YmdText, Fault, ReadDate}
-use Rattle.datetext.specs.Reading.{sound, complete}
+use Rattle.datetext.specs.Laws.{sound}
 use Rattle.datetext.specs.declared.Text.{Text}
-
--- ---- reading
-
-pub read-one : {s : List ℕ} {r q : Text} → ReadDate s r → ReadDate s q → r ≡ q
-read-one h k = sym (complete h) ∙ complete k
+use Rattle.datetext.specs.One.{read-one}
 
 -- which texts belong to the grammar
 

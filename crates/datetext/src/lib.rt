@@ -1,4 +1,6 @@
-// The text of a date: YEAR-ORDINAL or YEAR-MONTH-DAY, read. Each call answers for any bytes.
+// The text of a date: YEAR-ORDINAL or YEAR-MONTH-DAY, read. Each call answers for any bytes. `usual` reads the texts that most are, and any text by what
+// is here.
+mod usual;
 
 ghost use mathlib.Core.Path.{_≡_};
 ghost use Rattle.numbertext.specs.Reading.{theNumber, theDash};
@@ -9,6 +11,7 @@ use numbertext::End;
 use numbertext::Number;
 use numbertext::SignedNumber;
 use refusals::Refusal;
+pub use usual::read_date;
 
 // What a text writes, or its first fault. The place is that of the number which a later refusal may name, the ordinal or the day.
 pub enum Text {
@@ -29,7 +32,7 @@ pub enum Text {
 // ---- reading: a part at a time, each going on from the part before it, for any year or month that it is told
 
 // The day is to stand at `at`.
-pub fn day_on(text: &[u8], year: i32, month: u32, at: usize) -> Text
+fn day_on(text: &[u8], year: i32, month: u32, at: usize) -> Text
     ensures { λ r. ⌜ r ≡ afterDay (now (text .entry)) year month at (theNumber (now (text .entry)) at) ⌝ }
 {
     match numbertext::number_at(text, at) {
@@ -56,14 +59,14 @@ fn month_on(text: &[u8], year: i32, month: u32, at: usize) -> Text
     }
 }
 
-pub fn is_month(m: u32) -> bool
+fn is_month(m: u32) -> bool
     ensures { λ r. ⌜ r ≡ isMonth m ⌝ }
 {
     1 <= m && m <= 12
 }
 
 // The second number is to stand at `at`.
-pub fn second_on(text: &[u8], year: i32, at: usize) -> Text
+fn second_on(text: &[u8], year: i32, at: usize) -> Text
     ensures { λ r. ⌜ r ≡ afterSecond (now (text .entry)) year at (theNumber (now (text .entry)) at) ⌝ }
 {
     match numbertext::number_at(text, at) {
@@ -97,7 +100,7 @@ fn year_on(text: &[u8], year: i32, at: usize) -> Text
 }
 
 // The text part by part, from its front on.
-pub fn any_date(text: &[u8]) -> Text
+fn any_date(text: &[u8]) -> Text
     ensures { λ r. ⌜ ReadDate (now (text .entry)) r ⌝ }
 {
     match numbertext::signed_at(text, 0) {

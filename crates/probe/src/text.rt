@@ -131,5 +131,5 @@ fn said(answer: Text) -> Reply {
 }
 
 pub fn whole_text(line: &[u8], from: usize) -> Reply {
-    said(usualtext::read_date(query::tail(line, from)))
+    said(datetext::read_date(query::tail(line, from)))
 }

@@ -5,7 +5,8 @@ use lib.IntN.{ℤ}
 use mir.Facts.{toZ-ofZ}
 use denote.Ref.{now}
 use Rattle.numbertext.specs.Meaning.{signed-is}
-use Rattle.datetext.specs.Reading.{afterDash, afterYear, read-as}
+use Rattle.datetext.specs.Reading.{afterDash, afterYear}
+use Rattle.datetext.specs.Laws.{read-as}
 use Rattle.numbertext.specs.Reading.{theDash}
 use borrow.Author.Needs.{needs, sfits-of}
 use Rattle.datetext.proofs.any_date.Statement.{statement}

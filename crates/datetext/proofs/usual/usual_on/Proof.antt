@@ -1,16 +1,16 @@
--- `usualtext::usual_on` meets its promise: each part that is found takes the text a step further, and the rest is read as any text is.
+-- `datetext::usual::usual_on` meets its promise: each part that is found takes the text a step further, and the rest is read as any text is.
 -- Assumes nothing.
 use mathlib.Core.Path.{sym, ap, _∙_}
 use lib.IntN.{ℤ}
 use mir.Facts.{toZ-ofZ}
 use denote.Ref.{now}
 use Rattle.numbertext.specs.Reading.{theNumber}
 use Rattle.datetext.specs.Reading.{afterDay, afterSecond}
-use Rattle.usualtext.specs.Usual.{if-at, MonthRead}
+use Rattle.datetext.specs.Usual.{if-at, MonthRead}
 use Rattle.datetext.specs.declared.Text.{Text}
 use borrow.Author.Needs.{needs}
-use Rattle.usualtext.proofs.usual_on.Statement.{statement}
-use Rattle.usualtext.proofs.usual_on.Tie as tie
+use Rattle.datetext.proofs.usual.usual_on.Statement.{statement}
+use Rattle.datetext.proofs.usual.usual_on.Tie as tie
 
 month : (c : tie.After-known-told) → MonthRead (now (c .before .before .before .before .before .args .text)) (c .before .before .before .before .before .args .at) (c .before .month .given .0 .0) (c .before .month .given .0 .1 .0)
 month c = if-at (rw (c .before .month .given .1) at (c .before .before .before .usual-month .ensures))

@@ -1,4 +1,4 @@
--- `usualtext::read_date` meets its promise: a year that is found takes the text to the second number.
+-- `datetext::usual::read_date` meets its promise: a year that is found takes the text to the second number.
 -- Assumes nothing.
 use mathlib.Core.Path.{sym, ap, _∙_}
 use native.Mathlib.Omega.{arith}
@@ -6,11 +6,12 @@ use lib.IntN.{ℤ}
 use mir.Facts.{toZ-ofZ}
 use denote.Ref.{now}
 use Rattle.numbertext.specs.Reading.{theNumber}
-use Rattle.datetext.specs.Reading.{afterSecond, read-meant}
-use Rattle.usualtext.specs.Usual.{if-at, YearRead, lowered-year}
+use Rattle.datetext.specs.Reading.{afterSecond}
+use Rattle.datetext.specs.Laws.{read-meant}
+use Rattle.datetext.specs.Usual.{if-at, YearRead, lowered-year}
 use borrow.Author.Needs.{needs, sfits-of}
-use Rattle.usualtext.proofs.read_date.Statement.{statement}
-use Rattle.usualtext.proofs.read_date.Tie as tie
+use Rattle.datetext.proofs.usual.read_date.Statement.{statement}
+use Rattle.datetext.proofs.usual.read_date.Tie as tie
 
 year : (c : tie.After-known-told) → YearRead (now (c .before .before .before .before .before .args .text)) (c .before .year .given .0 .0) (c .before .year .given .0 .1 .0)
 year c = if-at (rw (c .before .year .given .1) at (c .before .before .before .usual-year .ensures))

@@ -1,12 +1,12 @@
--- `usualtext::usual_month` meets its promise: the digits before the dash are those of the month.
+-- `datetext::usual::usual_month` meets its promise: the digits before the dash are those of the month.
 -- Assumes nothing.
 use mathlib.Core.Path.{sym, _∙_}
 use native.Mathlib.Omega.{arith}
 use Rattle.digits.specs.Few.{digit-seen}
-use Rattle.usualtext.specs.Usual.{IfAt, two-digit-month, one-digit-month}
+use Rattle.datetext.specs.Usual.{IfAt, two-digit-month, one-digit-month}
 use borrow.Author.Needs.{needs}
-use Rattle.usualtext.proofs.usual_month.Statement.{statement}
-use Rattle.usualtext.proofs.usual_month.Tie as tie
+use Rattle.datetext.proofs.usual.usual_month.Statement.{statement}
+use Rattle.datetext.proofs.usual.usual_month.Tie as tie
 
 sub-if1 : tie.Need-sub-if1
 sub-if1 c = search needs

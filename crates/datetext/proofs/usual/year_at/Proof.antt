@@ -1,11 +1,11 @@
--- `usualtext::year_at` meets its promise: the hundreds and two digits after them write the year.
+-- `datetext::usual::year_at` meets its promise: the hundreds and two digits after them write the year.
 -- Assumes nothing.
 use native.Mathlib.Omega.{arith}
 use Rattle.digits.specs.Few.{pair-seen}
-use Rattle.usualtext.specs.Usual.{IfAt, hundreds-place, year-is}
+use Rattle.datetext.specs.Usual.{IfAt, hundreds-place, year-is}
 use borrow.Author.Needs.{needs}
-use Rattle.usualtext.proofs.year_at.Statement.{statement}
-use Rattle.usualtext.proofs.year_at.Tie as tie
+use Rattle.datetext.proofs.usual.year_at.Statement.{statement}
+use Rattle.datetext.proofs.usual.year_at.Tie as tie
 
 returns : tie.Need-returns
 returns c = IfAt.other

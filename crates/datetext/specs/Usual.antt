@@ -1,5 +1,5 @@
--- The usual text, a year of three or four digits, a month and a day of one or two: each part, once its digits are seen, takes what `datetext` computes
--- a step further.
+-- The usual text, a year of three or four digits, a month and a day of one or two: each part, once its digits are seen, takes what `Reading` computes a
+-- step further.
 -- Assumes nothing.
 use Prim.Native.Nat.{ℕ, _+_, _*_, _≤_, _<_, _^_}
 use mathlib.Core.Path.{_≡_, refl, sym, _∙_, ap, subst}
@@ -19,9 +19,9 @@ use Rattle.numbertext.specs.Reading.{theNumber, theSigned}
 use Rattle.numbertext.specs.Places.{dash-yes, end-reached, number-of, signed-of}
 use Rattle.numbertext.specs.declared.Number.{Number}
 use Rattle.numbertext.specs.declared.SignedNumber.{SignedNumber}
 use Rattle.datetext.specs.Reading.{isMonth, toYmd, afterDay, afterMonth, afterSecond, afterDash, afterYear, readText}
 use Rattle.datetext.specs.declared.Text.{Text}
-use Rattle.usualtext.specs.declared.Part.{Part}
+use Rattle.datetext.specs.declared.usual.Part.{Part}
 
 -- P holds of a part that is found; of one that is not, nothing is said
 pub data IfAt (P : ℕ → ℕ → Type 0) : Part → Type 0 where

@@ -1,11 +1,11 @@
--- `usualtext::usual_year` meets its promise: the digits before the dash are those of the year.
+-- `datetext::usual::usual_year` meets its promise: the digits before the dash are those of the year.
 -- Assumes nothing.
 use native.Mathlib.Omega.{arith}
 use Rattle.digits.specs.Few.{digit-seen}
-use Rattle.usualtext.specs.Usual.{IfAt, Hundreds}
+use Rattle.datetext.specs.Usual.{IfAt, Hundreds}
 use borrow.Author.Needs.{needs}
-use Rattle.usualtext.proofs.usual_year.Statement.{statement}
-use Rattle.usualtext.proofs.usual_year.Tie as tie
+use Rattle.datetext.proofs.usual.usual_year.Statement.{statement}
+use Rattle.datetext.proofs.usual.usual_year.Tie as tie
 
 returns : tie.Need-returns
 returns c = IfAt.other

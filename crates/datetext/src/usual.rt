@@ -1,14 +1,14 @@
 // The text of a date, the usual one first: a year of three or four digits, a month and a day of one or two. Most texts are so, and are read without
-// the questions that only the others need. Where a part is not so, the text is read from there on by `datetext`, as any text is.
+// the questions that only the others need. Where a part is not so, the text is read from there on part by part, as any text is.
 
 ghost use mathlib.Core.Path.{_≡_};
 ghost use Prim.Native.Nat.{_≤_, _<_};
 ghost use lib.ListN.{length};
 ghost use Rattle.numbertext.specs.Reading.{theNumber};
 ghost use Rattle.datetext.specs.Grammar.{ReadDate};
 ghost use Rattle.datetext.specs.Reading.{afterSecond};
-ghost use Rattle.usualtext.specs.Usual.{IfAt, Hundreds, YearRead, MonthRead, DayRead};
-use datetext::Text;
+ghost use Rattle.datetext.specs.Usual.{IfAt, Hundreds, YearRead, MonthRead, DayRead};
+use crate::Text;
 
 // A number that stands where it is looked for, and the place after it, and after the `-` that a year or a month has. `Other` says nothing of a text.
 enum Part {
@@ -60,7 +60,7 @@ fn usual_month(text: &[u8], at: usize) -> Part
     }
     if text[at + 2] == b'-' {
         let month = digits::pair_at(text, at);
-        if datetext::is_month(month) {
+        if crate::is_month(month) {
             return Part::At(month, at + 3);
         }
         return Part::Other;
@@ -70,7 +70,7 @@ fn usual_month(text: &[u8], at: usize) -> Part
         if 9 < month {
             return Part::Other;
         }
-        if datetext::is_month(month) {
+        if crate::is_month(month) {
             return Part::At(month, at + 2);
         }
     }
@@ -101,7 +101,7 @@ fn usual_on(text: &[u8], year: i32, at: usize) -> Text
     ensures { λ r. ⌜ r ≡ afterSecond (now (text .entry)) year at (theNumber (now (text .entry)) at) ⌝ }
 {
     match usual_month(text, at) {
-        Part::Other => datetext::second_on(text, year, at),
+        Part::Other => crate::second_on(text, year, at),
         Part::At(month, third) => {
             let day = usual_day(text, third);
             if day < 100 {
@@ -112,7 +112,7 @@ fn usual_on(text: &[u8], year: i32, at: usize) -> Text
                     place: third,
                 }
             } else {
-                datetext::day_on(text, year, month, third)
+                crate::day_on(text, year, month, third)
             }
         }
     }
@@ -122,7 +122,7 @@ pub fn read_date(text: &[u8]) -> Text
     ensures { λ r. ⌜ ReadDate (now (text .entry)) r ⌝ }
 {
     match usual_year(text) {
-        Part::Other => datetext::any_date(text),
+        Part::Other => crate::any_date(text),
         Part::At(year, second) => usual_on(text, whole::lowered(2_147_483_648 + year), second),
     }
 }

@@ -1,11 +1,11 @@
--- `usualtext::usual_day` meets its promise: what is left of the text are the digits of the day.
+-- `datetext::usual::usual_day` meets its promise: what is left of the text are the digits of the day.
 -- Assumes nothing.
 use native.Mathlib.Omega.{arith}
 use Rattle.digits.specs.Few.{digit-seen, pair-seen}
-use Rattle.usualtext.specs.Usual.{two-digit-day, one-digit-day}
+use Rattle.datetext.specs.Usual.{two-digit-day, one-digit-day}
 use borrow.Author.Needs.{needs}
-use Rattle.usualtext.proofs.usual_day.Statement.{statement}
-use Rattle.usualtext.proofs.usual_day.Tie as tie
+use Rattle.datetext.proofs.usual.usual_day.Statement.{statement}
+use Rattle.datetext.proofs.usual.usual_day.Tie as tie
 
 sub-left : tie.Need-sub-left
 sub-left c = search needs
