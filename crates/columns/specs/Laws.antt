@@ -7,14 +7,13 @@ use lib.ListN.{length}
 use lib.IntN.{ℤ, pos}
 use Rattle.days.specs.DayByDay.{weekday}
 use Rattle.calendar.specs.declared.Date.{Date}
-use Rattle.writer.specs.Writing.{Puts, Writes}
-use Rattle.writer.specs.Puts.{left-alone}
+use Rattle.writer.specs.Promise.{Puts, Writes, Copies, copied, no-room}
+use Rattle.writer.specs.Laws.{left-alone}
 use Rattle.writer.specs.declared.Written.{Written}
 use Rattle.refusals.specs.Refusals.{refusal as textRefusal}
 use Rattle.refusals.specs.declared.Refusal.{Refusal}
-use Rattle.buffer.specs.Buffer.{Copies, copied, no-room}
 use Rattle.linetext.specs.declared.Row.{Row}
-use Rattle.buffer.specs.declared.Copied.{Copied}
+use Rattle.writer.specs.declared.buffer.Copied.{Copied}
 use Rattle.columns.specs.Columns.{header, rowOf}
 
 pub row-is : (d : Date) {j y : ℤ} {w : ℕ} → j ≡ d .jdn → y ≡ d .year → w ≡ weekday (d .jdn) → _≡_ {A = Row} (record { jdn = j; year = y; ordinal = d .ordinal; month = d .month; day = d .day; weekday = w }) (rowOf d)

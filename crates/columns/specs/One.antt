@@ -4,8 +4,8 @@ use Prim.Native.Nat.{ℕ}
 use mathlib.Core.Path.{_≡_, sym, _∙_, subst}
 use mathlib.Core.List.{List}
 use Rattle.calendar.specs.declared.Dated.{Dated}
-use Rattle.writer.specs.Writing.{Writes}
-use Rattle.writer.specs.Theorems.{writes-one}
+use Rattle.writer.specs.Promise.{Writes}
+use Rattle.writer.specs.One.{writes-one}
 use Rattle.writer.specs.declared.Written.{Written}
 use Rattle.linetext.specs.Line.{Ended}
 use Rattle.linetext.specs.One.{ended-one}

@@ -1,14 +1,15 @@
 // The columns of the listing: the numbers that stand in the line of an answer, and the header over them.
 
 ghost use mathlib.Core.Path.{_≡_};
-ghost use Rattle.writer.specs.Writing.{Writes};
+ghost use Rattle.writer.specs.Promise.{Writes};
 ghost use Rattle.columns.specs.Columns.{header, rowOf, lineOf};
-use buffer::Copied;
 use calendar::Date;
 use calendar::Dated;
 use linetext::Line;
 use linetext::Row;
 use writer::Written;
+use writer::buffer;
+use writer::buffer::Copied;
 
 fn row_of(date: Date) -> Row
     ensures { λ r. ⌜ r ≡ rowOf date ⌝ }

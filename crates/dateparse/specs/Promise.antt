@@ -14,7 +14,7 @@ use Rattle.calendar.specs.declared.Dated.the-variants as Dated′
 use Rattle.calendar.specs.Calendars.{timeline, Accepted, Genuine}
 use Rattle.calendar.specs.Rows.{Unless}
 use Rattle.calendar.specs.Promise.{made-up, YmdIn, OrdinalIn}
-use Rattle.writer.specs.Writing.{WriteYmd}
+use Rattle.writer.specs.Promise.{WriteYmd}
 use Rattle.writer.specs.declared.Written.{Written}
 use Rattle.datetext.specs.Grammar.{OrdinalText, YmdText, Fault}
 

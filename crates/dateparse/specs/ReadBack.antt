@@ -9,10 +9,9 @@ use lib.IntN.{ℤ, natAbs}
 use mir.Syntax.{w32}
 use mir.Val.{SFits}
 use Rattle.numbertext.specs.Numerals.{Unsigned, Signed}
-use Rattle.decimals.specs.Decimal.{Decimal}
-use Rattle.decimals.specs.Decimals.{has-width}
-use Rattle.writer.specs.Writing.{WholeDecimal, YmdDecimal, WriteYmd}
-use Rattle.writer.specs.Puts.{ymd-text}
+use Rattle.writer.specs.Promise.{Decimal, WholeDecimal, YmdDecimal, WriteYmd}
+use Rattle.writer.specs.Decimals.{has-width}
+use Rattle.writer.specs.Laws.{ymd-text}
 use Rattle.writer.specs.Theorems.{written-front}
 use Rattle.writer.specs.declared.Written.{Written}
 use Rattle.datetext.specs.Grammar.{Month, YmdText, ReadDate}

@@ -23,7 +23,8 @@ use Rattle.calendar.specs.Promise.{YmdIn, OrdinalIn}
 use Rattle.calendar.specs.One.{record-one, ymd-in-one, ordinal-in-one}
 use Rattle.calendar.specs.Theorems.{IsRecordOfIn, ymd-in-accepts, ymd-in-only, ordinal-in-accepts, ordinal-in-only, has-record}
 use Rattle.calendar.specs.Answered.{ymd-answered, ordinal-answered}
-use Rattle.writer.specs.Writing.{YmdDecimal}
+use Rattle.writer.specs.Promise.{YmdDecimal}
+use Rattle.writer.specs.One.{write-ymd-one}
 use Rattle.writer.specs.Theorems as W
 use Rattle.writer.specs.declared.Written.{Written}
 use Rattle.datetext.specs.Grammar.{Month, OrdinalText, YmdText}
@@ -53,7 +54,7 @@ pub parse-date-one : (c : Calendar) (s : List ℕ) → One (ParseDate c s)
 parse-date-one c s = unless-one (λ a. by-text-one {t = timeline c} (accepted-rises a) c s)
 
 pub write-date-one : (d : Date) (b : List ℕ) → One (WriteDate d b)
-write-date-one d b = unless-one (λ g p q x y. let (e, f) = W.write-ymd-one x y in pair-is p q e f)
+write-date-one d b = unless-one (λ g p q x y. let (e, f) = write-ymd-one x y in pair-is p q e f)
   where
     pair-is : (p q : List ℕ × Written) → p .0 ≡ q .0 → p .1 ≡ q .1 → p ≡ q
     pair-is p q e f = ap (λ (l : List ℕ). (l, p .1)) e ∙ ap (λ (w : Written). (q .0, w)) f

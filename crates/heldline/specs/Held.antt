@@ -7,7 +7,7 @@ use lib.IntN.{pos}
 use Rattle.calendar.specs.declared.Dated.{Dated}
 use Rattle.calendar.specs.declared.Dated.the-variants as Dated′
 use Rattle.calendar.specs.Promise.{refusal}
-use Rattle.buffer.specs.Buffer.{put}
+use Rattle.writer.specs.Promise.{put}
 use Rattle.entry.specs.Entry.{LineAnswer}
 use Rattle.linetext.specs.Line.{LineOut}
 use Rattle.linetext.specs.declared.Line.{Line}

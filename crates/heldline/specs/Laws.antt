@@ -6,16 +6,15 @@ use mathlib.Core.List.{List, []}
 use native.Mathlib.Omega.{arith}
 use lib.ListN.{length}
 use lib.IntN.{pos}
-use Rattle.writer.specs.Writing.{Writes}
-use Rattle.buffer.specs.Puts.{put-none}
-use Rattle.writer.specs.Puts.{wrote, left-alone}
+use Rattle.writer.specs.Promise.{Writes, Copies, copied, no-room}
+use Rattle.writer.specs.Buffers.{put-none}
+use Rattle.writer.specs.Laws.{wrote, left-alone}
 use Rattle.writer.specs.declared.Written.{Written}
 use Rattle.refusals.specs.Refusals.{refusal as textRefusal}
 use Rattle.refusals.specs.declared.Refusal.{Refusal}
-use Rattle.buffer.specs.Buffer.{Copies, copied, no-room}
 use Rattle.linetext.specs.Line.{LineOut}
 use Rattle.linetext.specs.declared.Line.{Line}
-use Rattle.buffer.specs.declared.Copied.{Copied}
+use Rattle.writer.specs.declared.buffer.Copied.{Copied}
 use Rattle.heldline.specs.Held.{Fills, HeldAs, HeldLine, LastLine}
 
 pub fills-to : {l : List ℕ} {n : ℕ} {q l′ : List ℕ} {i : ℕ} → length l ≡ 512 → Copies q l n l′ (Copied.To i) → Fills l n q l′ i

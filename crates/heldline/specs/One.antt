@@ -6,9 +6,8 @@ use mathlib.Core.List.{List}
 use native.Mathlib.Omega.{arith}
 use lib.ListN.{length, take}
 use Rattle.calendar.specs.declared.Dated.{Dated}
-use Rattle.buffer.specs.Buffer.{put}
-use Rattle.writer.specs.Writing.{Writes}
-use Rattle.writer.specs.Theorems.{writes-one}
+use Rattle.writer.specs.Promise.{put, Writes}
+use Rattle.writer.specs.One.{writes-one}
 use Rattle.writer.specs.declared.Written.{Written}
 use Rattle.entry.specs.One.{line-answer-one}
 use Rattle.linetext.specs.declared.Line.{Line}

@@ -2,13 +2,14 @@
 
 ghost use Prim.Native.Nat.{_≤_};
 ghost use lib.ListN.{length, take};
-ghost use Rattle.writer.specs.Writing.{Writes};
+ghost use Rattle.writer.specs.Promise.{Writes};
 ghost use Rattle.entry.specs.Entry.{LineAnswer};
 ghost use Rattle.heldline.specs.Held.{Fills, HeldAs, LastLine};
-use buffer::Copied;
 use calendar::Dated;
 use linetext::Line;
 use writer::Written;
+use writer::buffer;
+use writer::buffer::Copied;
 
 // Adds bytes to the line that is held. For a line that is too long more than 512 are told, and what is in the buffer no longer matters.
 pub fn fill(line: &mut [u8; 512], held: usize, part: &[u8]) -> usize

@@ -12,12 +12,11 @@ use Rattle.whole.specs.Edge.{isNegative}
 use Rattle.refusals.specs.Refusals.{refusal}
 use Rattle.digits.specs.Numerals.{dash}
 use Rattle.refusals.specs.declared.Refusal.{Refusal}
-use Rattle.buffer.specs.Buffer.{Copies, copied, no-room}
-use Rattle.buffer.specs.Puts.{So, so-on}
-use Rattle.buffer.specs.declared.Copied.{Copied}
-use Rattle.decimals.specs.Decimals.{digitsOf, length-digits, width-few, decimal-of, counting-start, counting-step}
-use Rattle.writer.specs.Writing.{WholeDecimal, Puts, Writes}
-use Rattle.writer.specs.Puts.{wrote, left-alone, Signs, whole-text}
+use Rattle.writer.specs.Promise.{Copies, copied, no-room, digitsOf, WholeDecimal, Puts, Writes, Signs}
+use Rattle.writer.specs.Buffers.{So, so-on}
+use Rattle.writer.specs.declared.buffer.Copied.{Copied}
+use Rattle.writer.specs.Decimals.{length-digits, width-few, decimal-of, counting-start, counting-step}
+use Rattle.writer.specs.Laws.{wrote, left-alone, whole-text}
 use Rattle.writer.specs.declared.Written.{Written}
 use Rattle.linetext.specs.Line.{newline, tab, mark, Columns, rowColumns, refusalColumns, of-row, of-refusal, Ended, ended, LineOut}
 use Rattle.linetext.specs.declared.Row.{Row}

@@ -5,7 +5,7 @@ use mathlib.Core.List.{List, [], _∷_, _++_}
 use lib.ListN.{length}
 use lib.IntN.{ℤ, pos}
 use Rattle.refusals.specs.declared.Refusal.{Refusal}
-use Rattle.writer.specs.Writing.{WholeDecimal}
+use Rattle.writer.specs.Promise.{WholeDecimal}
 use Rattle.linetext.specs.declared.Row.{Row}
 use Rattle.linetext.specs.declared.Line.{Line}
 use Rattle.linetext.specs.declared.Line.the-variants as Line′

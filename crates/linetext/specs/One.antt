@@ -4,8 +4,8 @@ use Prim.Native.Nat.{ℕ}
 use mathlib.Core.Path.{_≡_, ap, ap₂}
 use mathlib.Core.List.{List, [], _∷_, _++_}
 use lib.IntN.{ℤ}
-use Rattle.writer.specs.Writing.{Writes}
-use Rattle.writer.specs.Theorems.{whole-one, writes-one}
+use Rattle.writer.specs.Promise.{Writes}
+use Rattle.writer.specs.One.{whole-one, writes-one}
 use Rattle.writer.specs.declared.Written.{Written}
 use Rattle.linetext.specs.Line.{newline, tab, mark, Columns, LineText, of-row, of-refusal, Ended, ended, LineOut}
 use Rattle.linetext.specs.declared.Line.{Line}

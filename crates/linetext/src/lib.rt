@@ -7,16 +7,15 @@ ghost use mathlib.Core.Bool.{false};
 ghost use Prim.Native.Nat.{_+_, _<_, _≤_};
 ghost use lib.ListN.{length};
 ghost use lib.IntN.{pos};
-ghost use Rattle.buffer.specs.Puts.{So};
-ghost use Rattle.decimals.specs.Decimals.{digitsOf};
-ghost use Rattle.writer.specs.Writing.{Writes};
-ghost use Rattle.writer.specs.Puts.{Signs};
+ghost use Rattle.writer.specs.Buffers.{So};
+ghost use Rattle.writer.specs.Promise.{digitsOf, Writes, Signs};
 ghost use Rattle.linetext.specs.declared.Line.the-variants.{Row as OfRow, Refusal as OfRefusal};
 ghost use Rattle.linetext.specs.Line.{LineOut};
 ghost use Rattle.linetext.specs.Laws.{Text, Column, CellsOf, LineOf};
-use buffer::Copied;
 use refusals::Refusal;
 use writer::Written;
+use writer::buffer;
+use writer::buffer::Copied;
 
 // The columns of a day, whatever numbers they are: that they are those of one day is said where they come from.
 pub struct Row {

@@ -7,9 +7,8 @@ use native.Mathlib.Omega.{arith}
 use lib.ListN.{length, take, drop, length-append, length-drop}
 use lib.Seq.{take-all, take-at}
 use Rattle.calendar.specs.declared.Dated.{Dated}
-use Rattle.buffer.specs.Buffer.{put}
-use Rattle.writer.specs.Writing.{Puts, Writes}
-use Rattle.buffer.specs.Puts.{length-put}
+use Rattle.writer.specs.Promise.{put, Puts, Writes}
+use Rattle.writer.specs.Buffers.{length-put}
 use Rattle.writer.specs.declared.Written.{Written}
 use Rattle.refusals.specs.declared.Refusal.{Refusal}
 use Rattle.bytesearch.specs.Promise.{Without, UpTo}

@@ -6,9 +6,8 @@ use mathlib.Core.List.{List, [], _∷_, _++_}
 use native.Mathlib.Omega.{arith}
 use lib.ListN.{length, length-append}
 use Rattle.calendar.specs.declared.Dated.{Dated}
-use Rattle.buffer.specs.Buffer.{put}
-use Rattle.writer.specs.Writing.{Writes}
-use Rattle.writer.specs.Theorems.{writes-one}
+use Rattle.writer.specs.Promise.{put, Writes}
+use Rattle.writer.specs.One.{writes-one}
 use Rattle.writer.specs.declared.Written.{Written}
 use Rattle.entry.specs.Entry.{LineAnswer}
 use Rattle.bytesearch.specs.One.{parted-one, never-parted}

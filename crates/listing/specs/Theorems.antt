@@ -11,8 +11,8 @@ use native.Mathlib.Omega.{arith}
 use lib.ListN.{length, take, drop, length-append}
 use lib.Seq.{take-at, drop-drop, drop-at, length-take-le, drop-length}
 use Rattle.calendar.specs.Rows.{refuses}
-use Rattle.buffer.specs.Buffer.{put}
-use Rattle.buffer.specs.Puts.{put-none, put-then, length-put}
+use Rattle.writer.specs.Promise.{put}
+use Rattle.writer.specs.Buffers.{put-none, put-then, length-put}
 use Rattle.bytesearch.specs.Promise.{Without}
 use Rattle.bytesearch.specs.Laws.{without-both}
 use Rattle.entry.specs.Entry.{LineAnswer}

@@ -3,13 +3,14 @@
 
 ghost use Prim.Native.Nat.{_+_, _<_, _≤_};
 ghost use lib.ListN.{length};
-ghost use Rattle.writer.specs.Writing.{Writes};
+ghost use Rattle.writer.specs.Promise.{Writes};
 ghost use Rattle.heldline.specs.Held.{HeldLine};
 ghost use Rattle.listing.specs.Lines.{Listed};
 ghost use Rattle.listing.specs.Blocks.{Wrote, stand, Turn, Lists};
 pub use columns::put_header;
 pub use heldline::list_last;
 use writer::Written;
+use writer::buffer;
 
 // The text of its answer, with a newline.
 pub fn list_line(line: &[u8], out: &mut [u8], at: usize) -> Written

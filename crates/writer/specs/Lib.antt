@@ -1,5 +1,8 @@
--- What is written: numbers and dates as texts, and what a writer promises (`Writing`), and their place in a buffer (`Puts`); and the theorems on all of
--- it (`Theorems`).
-pub mod Writing
-pub mod Puts
+-- What is written into a lent buffer. A reader's file is `Promise`. `One` shows that a promise allows one result, and `Theorems` where the text of a date
+-- stands and how long it is at most. Laws: of a buffer (`Buffers`), of the digits of a number (`Decimals`), and from both to the promises (`Laws`).
+pub mod Promise
+pub mod Buffers
+pub mod Decimals
+pub mod Laws
+pub mod One
 pub mod Theorems

@@ -1,13 +1,14 @@
 // Numbers and year-month-day texts, written into a buffer that is lent. Each call answers for any buffer and any place.
+pub mod buffer;
+pub mod decimals;
 
 ghost use mathlib.Core.Path.{_≡_};
 ghost use mathlib.Core.Bool.{true};
 ghost use Prim.Native.Nat.{_+_, _≤_};
 ghost use lib.ListN.{length};
-ghost use Rattle.writer.specs.Writing.{Writes, PutNumber, PutWhole, WriteYmd};
-ghost use Rattle.buffer.specs.Puts.{So};
-ghost use Rattle.decimals.specs.Decimals.{digitsOf};
-ghost use Rattle.writer.specs.Puts.{wholeText, wholeWidth, Signs};
+ghost use Rattle.writer.specs.Promise.{Writes, PutNumber, PutWhole, WriteYmd, digitsOf, wholeText, Signs};
+ghost use Rattle.writer.specs.Buffers.{So};
+ghost use Rattle.writer.specs.Laws.{wholeWidth};
 use refusals::Refusal;
 
 pub enum Written {

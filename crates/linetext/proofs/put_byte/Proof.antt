@@ -1,7 +1,7 @@
 -- `linetext::put_byte` meets its promise: a byte stored is a text of one byte put there.
 -- Assumes nothing.
 use mathlib.Core.Path.{refl}
-use Rattle.buffer.specs.Puts.{put-byte}
+use Rattle.writer.specs.Buffers.{put-byte}
 use borrow.Author.Needs.{needs}
 use Rattle.linetext.proofs.put_byte.Statement.{statement}
 use Rattle.linetext.proofs.put_byte.Tie as tie

@@ -1,7 +1,7 @@
 -- `writer::put_at` meets its promise: there is room for the number and it is put there, or the buffer is left.
 -- Assumes nothing.
 use denote.Ref.{now}
-use Rattle.writer.specs.Puts.{room-for, signed-wrote, signed-left}
+use Rattle.writer.specs.Laws.{room-for, signed-wrote, signed-left}
 use borrow.Author.Needs.{needs}
 use Rattle.writer.proofs.put_at.Statement.{statement}
 use Rattle.writer.proofs.put_at.Tie as tie

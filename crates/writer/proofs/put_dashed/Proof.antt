@@ -5,7 +5,7 @@ use native.Mathlib.Omega.{arith}
 use lib.ListN.{length-set}
 use denote.Ref.{now}
 use Rattle.digits.specs.Numerals.{dash}
-use Rattle.writer.specs.Puts.{so-dashed}
+use Rattle.writer.specs.Laws.{so-dashed}
 use borrow.Author.Needs.{needs}
 use Rattle.writer.proofs.put_dashed.Statement.{statement}
 use Rattle.writer.proofs.put_dashed.Tie as tie

@@ -3,8 +3,8 @@
 use mathlib.Core.Path.{refl, sym, ap}
 use Prim.Native.Nat.{ℕ, _+_}
 use native.Mathlib.Omega.{arith}
-use Rattle.decimals.specs.Decimals.{length-digits}
-use Rattle.writer.specs.Puts.{Filling, filling-step, filling-done}
+use Rattle.writer.specs.Decimals.{length-digits}
+use Rattle.writer.specs.Laws.{Filling, filling-step, filling-done}
 use Rattle.writer.proofs.put_digits.Statement.{statement}
 use Rattle.writer.proofs.put_digits.Tie as tie
 

@@ -1,6 +1,6 @@
 -- `writer::put_number` meets its promise.
 -- Assumes nothing.
-use Rattle.writer.specs.Puts.{as-number}
+use Rattle.writer.specs.Laws.{as-number}
 use borrow.Author.Needs.{needs}
 use Rattle.writer.proofs.put_number.Statement.{statement}
 use Rattle.writer.proofs.put_number.Tie as tie

@@ -5,7 +5,7 @@ use mathlib.Core.Path.{subst}
 use mathlib.Core.Bool.{Bool}
 use lib.ListN.{length}
 use denote.Ref.{now}
-use Rattle.writer.specs.Puts.{wholeWidth, dashed-room, so-tested}
+use Rattle.writer.specs.Laws.{wholeWidth, dashed-room, so-tested}
 use borrow.Author.Needs.{needs}
 use Rattle.writer.proofs.put_signed.Statement.{statement}
 use Rattle.writer.proofs.put_signed.Tie as tie

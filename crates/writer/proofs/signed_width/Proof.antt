@@ -2,7 +2,7 @@
 -- Assumes nothing.
 use mathlib.Core.Path.{sym, ap}
 use mathlib.Core.Bool.{Bool}
-use Rattle.writer.specs.Puts.{wholeWidth}
+use Rattle.writer.specs.Laws.{wholeWidth}
 use borrow.Author.Needs.{needs}
 use Rattle.writer.proofs.signed_width.Statement.{statement}
 use Rattle.writer.proofs.signed_width.Tie as tie

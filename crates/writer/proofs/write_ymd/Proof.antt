@@ -6,7 +6,7 @@ use native.Mathlib.Omega.{arith}
 use lib.IntN.{natAbs}
 use mir.Facts.{toZ-ofZ}
 use Rattle.whole.specs.Edge.{isNegative}
-use Rattle.writer.specs.Puts.{length-whole, ymd-left, ymd-wrote}
+use Rattle.writer.specs.Laws.{length-whole, ymd-left, ymd-wrote}
 use borrow.Author.Needs.{needs, sfits-of}
 use Rattle.writer.proofs.write_ymd.Statement.{statement}
 use Rattle.writer.proofs.write_ymd.Tie as tie

@@ -1,11 +1,11 @@
--- `decimals::width` meets its promise. The loop's invariant is `Counting`: what is still to be counted comes to the whole with what was. The measure is the rest.
+-- `writer::decimals::width` meets its promise. The loop's invariant is `Counting`: what is still to be counted comes to the whole with what was. The measure is the rest.
 -- Assumes nothing.
 use mathlib.Core.Path.{refl}
 use Prim.Native.Nat.{ℕ, _≤_, _<_, _^_}
 use native.Mathlib.Omega.{arith}
-use Rattle.decimals.specs.Decimals.{Counting, counting-start, counting-step, counted}
-use Rattle.decimals.proofs.width.Statement.{statement}
-use Rattle.decimals.proofs.width.Tie as tie
+use Rattle.writer.specs.Decimals.{Counting, counting-start, counting-step, counted}
+use Rattle.writer.proofs.decimals.width.Statement.{statement}
+use Rattle.writer.proofs.decimals.width.Tie as tie
 
 abbrev Inv-loop : tie.InvT-loop
 Inv-loop n rest₀ k₀ rest k = Counting n rest k

@@ -1,7 +1,7 @@
 // The digits of a number as it is written, with no padding: how many there are.
 
 ghost use Prim.Native.Nat.{_≤_};
-ghost use Rattle.decimals.specs.Decimals.{Width};
+ghost use Rattle.writer.specs.Promise.{Width};
 
 // How many digits a number has. They are counted four at a time, since most numbers in a text have fewer than five.
 pub fn width(n: u64) -> usize

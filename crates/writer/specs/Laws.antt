@@ -13,11 +13,9 @@ use Rattle.refusals.specs.declared.Refusal.{Refusal}
 use Rattle.refusals.specs.Refusals.{refusal}
 use Rattle.whole.specs.Edge.{isNegative}
 use Rattle.digits.specs.Numerals.{dash}
-use Rattle.buffer.specs.Buffer.{put}
-use Rattle.buffer.specs.Puts.{put-none, put-before, put-byte, So, so-on}
-use Rattle.decimals.specs.Decimal.{Decimal}
-use Rattle.decimals.specs.Decimals.{digitsOf, length-digits, Width, decimal-of}
-use Rattle.writer.specs.Writing.{WholeDecimal, YmdDecimal, Puts, Writes, PutNumber, PutWhole, WriteYmd}
+use Rattle.writer.specs.Promise.{put, Decimal, digitsOf, Width, WholeDecimal, YmdDecimal, Puts, Writes, PutNumber, PutWhole, WriteYmd, wholeText, Signs}
+use Rattle.writer.specs.Buffers.{put-none, put-before, put-byte, So, so-on}
+use Rattle.writer.specs.Decimals.{length-digits, decimal-of}
 use Rattle.writer.specs.declared.Written.{Written}
 
 -- ---- the loop that puts digits from the last to the first: what is still to be put takes b to the whole
@@ -51,10 +49,6 @@ module _ {b₀ : List ℕ} {at k n : ℕ} {b : List ℕ} {left rest : ℕ} (f : 
   filling-done h = let z : left ≡ 0 = omega arith in sym (put-none b at) ∙ sym (ap (λ (i : ℕ). put b at (digitsOf i rest)) z) ∙ f .same
 
 -- ---- a number with its sign, which has k digits
-
-abbrev pub wholeText : Bool → ℕ → ℕ → List ℕ
-wholeText true k n = dash ∷ digitsOf k n
-wholeText false k n = digitsOf k n
 
 abbrev pub wholeWidth : Bool → ℕ → ℕ
 wholeWidth true k = k + 1
@@ -126,9 +120,6 @@ module _ (neg : Bool) (ky n km m kd d : ℕ) {b b₁ b₂ b₃ : List ℕ} {i₁
       l₂ = length-append (wholeText neg ky n) (wholeText true km m)
 
 -- ---- the text of a sign and a magnitude, whatever its width
-
-pub data Signs (neg : Bool) (n : ℕ) : List ℕ → Type 0 where
-  signs : {k : ℕ} → Width n k → Signs neg n (wholeText neg k n)
 
 writes-as : {P Q : List ℕ → Type 0} {b b′ : List ℕ} {at : ℕ} {r : Written} → ((t : List ℕ) → P t → Q t) → Writes P b at b′ r → Writes Q b at b′ r
 writes-as f (Writes.writes {t} x h) = Writes.writes (f t x) h

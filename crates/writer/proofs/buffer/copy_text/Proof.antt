@@ -1,12 +1,12 @@
--- `buffer::copy_text` meets its promise.
+-- `writer::buffer::copy_text` meets its promise.
 -- Assumes nothing.
-use Rattle.buffer.specs.Puts.{copied-to}
-use Rattle.buffer.specs.Buffer.{no-room}
+use Rattle.writer.specs.Buffers.{copied-to}
+use Rattle.writer.specs.Promise.{no-room}
 use borrow.Author.Tests.{leb-true, leb-false}
 use mathlib.Core.Path.{sym, _∙_}
 use borrow.Author.Needs.{needs}
-use Rattle.buffer.proofs.copy_text.Statement.{statement}
-use Rattle.buffer.proofs.copy_text.Tie as tie
+use Rattle.writer.proofs.buffer.copy_text.Statement.{statement}
+use Rattle.writer.proofs.buffer.copy_text.Tie as tie
 
 has-room-requires : tie.Need-has-room-requires
 has-room-requires c κs = search needs

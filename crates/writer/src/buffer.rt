@@ -4,8 +4,8 @@ ghost use mathlib.Core.Path.{_≡_};
 ghost use Prim.Native.Nat.{_+_, _≤_};
 ghost use lib.ListN.{length};
 ghost use lib.Dec.{leb};
-ghost use Rattle.buffer.specs.Buffer.{Copies};
-ghost use Rattle.buffer.specs.Puts.{So};
+ghost use Rattle.writer.specs.Promise.{Copies};
+ghost use Rattle.writer.specs.Buffers.{So};
 
 // Whether a text of `size` bytes has room from `at` on.
 pub fn has_room(len: usize, at: usize, size: usize) -> bool

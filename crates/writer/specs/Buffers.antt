@@ -1,5 +1,4 @@
--- Laws of a buffer: texts put into it one after the other, whether one has room, and bytes copied; and that two results which the promise of a copier
--- allows are one.
+-- Laws of a buffer: texts put into it one after the other, whether one has room, and bytes copied.
 -- Assumes nothing.
 use Prim.Native.Nat.{ℕ, suc, _+_, _-_, _≤_, _<_}
 use mathlib.Core.Path.{_≡_, refl, sym, _∙_, ap, ap₂, subst}
@@ -13,8 +12,8 @@ use lib.Seq.{take-set-le, drop-set-lt, drop-cons, getD-set-same, take-at, take-s
 use lib.Dec.{leb}
 use borrow.Author.Tests.{le-leb, lt-leb}
 use Rattle.whole.specs.Tests.{lt-or-ge}
-use Rattle.buffer.specs.Buffer.{put, Copies, copied, no-room}
-use Rattle.buffer.specs.declared.Copied.{Copied}
+use Rattle.writer.specs.Promise.{put, Copies, copied}
+use Rattle.writer.specs.declared.buffer.Copied.{Copied}
 
 -- ---- a buffer
 
@@ -124,9 +123,3 @@ module _ {b₀ : List ℕ} {at : ℕ} {t b : List ℕ} {i : ℕ} (h : at + lengt
 
 pub copied-to : {t b : List ℕ} {at : ℕ} {b′ : List ℕ} {i : ℕ} → at + length t ≤ length b → So b at t b′ i → Copies t b at b′ (Copied.To i)
 copied-to {t} {b} {at} {b′} {i} h s = subst (λ (x : List ℕ). Copies t b at x (Copied.To i)) (sym (s .is)) (subst (λ (k : ℕ). Copies t b at (put b at t) (Copied.To k)) (sym (s .place)) (copied h))
-
-pub copy-text-one : {t b b₁ b₂ : List ℕ} {at : ℕ} {r₁ r₂ : Copied} → Copies t b at b₁ r₁ → Copies t b at b₂ r₂ → (b₁ ≡ b₂) × (r₁ ≡ r₂)
-copy-text-one (copied h) (copied k) = (refl, refl)
-copy-text-one (copied h) (no-room k) = absurd (omega arith)
-copy-text-one (no-room h) (copied k) = absurd (omega arith)
-copy-text-one (no-room h) (no-room k) = (refl, refl)

@@ -1,8 +1,8 @@
--- `buffer::has_room` meets its promise.
+-- `writer::buffer::has_room` meets its promise.
 -- Assumes nothing.
-use Rattle.buffer.specs.Puts.{room-test, no-room-test}
-use Rattle.buffer.proofs.has_room.Statement.{statement}
-use Rattle.buffer.proofs.has_room.Tie as tie
+use Rattle.writer.specs.Buffers.{room-test, no-room-test}
+use Rattle.writer.proofs.buffer.has_room.Statement.{statement}
+use Rattle.writer.proofs.buffer.has_room.Tie as tie
 
 returns : tie.Need-returns
 returns c = no-room-test _ _ _ (c .if1 .taken)

@@ -1,4 +1,4 @@
--- The digits of a number, by computing: that they are its decimal, and that it has no other; and how many there are.
+-- Laws of the digits of a number: that they are its decimal, and that it has no other; and how many there are.
 -- Assumes nothing.
 use Prim.Native.Nat.{ℕ, zero, suc, _+_, _-_, _*_, _/_, _%_, _≤_, _<_, _^_}
 use mathlib.Core.Path.{_≡_, refl, sym, _∙_, ap, ap₂, subst}
@@ -9,23 +9,11 @@ use native.Mathlib.Omega.{arith}
 use lib.ListN.{length, getD, length-append}
 use Rattle.whole.specs.Tests.{lt-or-ge}
 use Rattle.digits.specs.Numerals.{valueFrom, valueOf, Digit, Digits, Numeral}
-use Rattle.decimals.specs.Decimal.{Decimal}
-
--- the last k digits of n
-abbrev pub digitsOf : ℕ → ℕ → List ℕ
-digitsOf zero n = []
-digitsOf (suc k) n = digitsOf k (n / 10) ++ ((48 + n % 10) ∷ [])
+use Rattle.writer.specs.Promise.{Decimal, digitsOf, Width}
 
 pub length-digits : (k n : ℕ) → length (digitsOf k n) ≡ k
 length-digits zero n = refl
 length-digits (suc k) n = length-append (digitsOf k (n / 10)) ((48 + n % 10) ∷ []) ∙ omega (arith, length-digits k (n / 10))
-
--- n has k digits
-pub record Width (n k : ℕ) : Type 0 where
-  pub less : ℕ
-  pub is : k ≡ suc less
-  pub below : n < 10 ^ suc less
-  pub least : 1 ≤ less → 10 ^ less ≤ n
 
 -- ---- what digits write
 
@@ -145,12 +133,7 @@ decimal-one {p} {q} {n} d e = ⊎-elim
     (λ h. ⊎-elim (λ k. absurd (no-longer (e .numeral) d k)) (λ k. same-digits (d .numeral .digits) (e .numeral .digits) (omega arith) 0 0 (d .numeral .writes ∙ sym (e .numeral .writes)) .1) (lt-or-ge (length q) (length p)))
     (lt-or-ge (length p) (length q))
 
--- and one width
-pub width-one : {n k j : ℕ} → Width n k → Width n j → k ≡ j
-width-one {n} {k} {j} v w = sym (length-digits k n) ∙ ap length (decimal-one (decimal-of v) (decimal-of w)) ∙ length-digits j n
-
 -- ---- how long it is
-
 pub decimal-short : {p : List ℕ} {n : ℕ} → Decimal p n → (k : ℕ) → 1 ≤ k → n < 10 ^ k → length p ≤ k
 decimal-short {p} {n} d k h l = by (d .numeral .digits) (d .unpadded) (d .numeral .writes)
   where

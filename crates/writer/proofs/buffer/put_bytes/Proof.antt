@@ -1,11 +1,11 @@
--- `buffer::put_bytes` meets its promise. The loop's invariant is `Copying`: the first bytes of the text stand in the buffer. The measure is how many are left.
+-- `writer::buffer::put_bytes` meets its promise. The loop's invariant is `Copying`: the first bytes of the text stand in the buffer. The measure is how many are left.
 -- Assumes nothing.
-use Rattle.buffer.specs.Puts.{Copying, copying-start, copying-on, copying-done}
+use Rattle.writer.specs.Buffers.{Copying, copying-start, copying-on, copying-done}
 use native.Mathlib.Omega.{arith}
 use Prim.Native.Nat.{_-_}
 use lib.ListN.{length}
-use Rattle.buffer.proofs.put_bytes.Statement.{statement}
-use Rattle.buffer.proofs.put_bytes.Tie as tie
+use Rattle.writer.proofs.buffer.put_bytes.Statement.{statement}
+use Rattle.writer.proofs.buffer.put_bytes.Tie as tie
 
 abbrev Inv-loop : tie.InvT-loop
 Inv-loop out₀ at text i₀ out i = Copying out₀ at text out i
