@@ -42,6 +42,6 @@ pub fn put_header(out: &mut [u8], at: usize) -> Written
 {
     match buffer::copy_text(out, at, &HEADER) {
         Copied::To(end) => Written::Done(end),
-        Copied::NoRoom => Written::Refused(numbertext::refusal(18, 0, 35)),
+        Copied::NoRoom => Written::Refused(refusals::refusal_with(18, 35)),
     }
 }

@@ -76,7 +76,7 @@ fn second_on(text: &[u8], year: i32, at: usize) -> Text
                 if is_month(n) {
                     month_on(text, year, n, next)
                 } else {
-                    Text::Refused(numbertext::refusal(3, at, n))
+                    Text::Refused(refusals::refusal_at(3, at, n))
                 }
             } else {
                 Text::Ordinal {

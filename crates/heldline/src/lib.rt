@@ -48,5 +48,5 @@ pub fn list_last(line: &[u8; 512], held: usize, out: &mut [u8], at: usize) -> Wr
     if buffer::has_room(out.len(), at, 0) {
         return Written::Done(at);
     }
-    Written::Refused(numbertext::refusal(18, 0, 0))
+    Written::Refused(refusals::refusal_with(18, 0))
 }

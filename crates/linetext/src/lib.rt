@@ -236,7 +236,7 @@ fn put_apart(out: &mut [u8], at: usize, line: Line) -> Written
     let size = put_either(&mut apart, 0, line);
     match buffer::copy_text(out, at, &apart[..size]) {
         Copied::To(end) => Written::Done(end),
-        Copied::NoRoom => Written::Refused(numbertext::refusal(18, 0, size as u32)),
+        Copied::NoRoom => Written::Refused(refusals::refusal_with(18, size as u32)),
     }
 }
 

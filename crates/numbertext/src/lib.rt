@@ -3,12 +3,12 @@
 
 ghost use mathlib.Core.Path.{_≡_};
 ghost use lib.ListN.{drop};
-ghost use lib.IntN.{pos};
-ghost use Rattle.refusals.specs.Refusals.{refusal as refusalOf};
 ghost use Rattle.numbertext.specs.Promise.{NumberAt, SignedAt, DashAt, EndAt};
 ghost use Rattle.numbertext.specs.Reading.{endedAt, signedRun, limitOf};
 use digits::Run;
 use refusals::Refusal;
+use refusals::byte_refusal;
+use refusals::refusal_at;
 use whole::Narrowed;
 
 // What a read at a place answers: what stands there and the place after it, or why it is refused.
@@ -33,25 +33,6 @@ pub enum End {
     Refused(Refusal),
 }
 
-// A refusal about an unsigned value.
-pub fn refusal(number: u32, place: usize, value: u32) -> Refusal
-    ensures { λ r. ⌜ r ≡ refusalOf number place (pos value) ⌝ }
-{
-    let v = whole::counted(value);
-    Refusal {
-        number,
-        place,
-        value: v,
-    }
-}
-
-// A refusal about a byte.
-pub fn byte_refusal(number: u32, place: usize, b: u8) -> Refusal
-    ensures { λ r. ⌜ r ≡ refusalOf number place (pos b) ⌝ }
-{
-    refusal(number, place, b as u32)
-}
-
 // ---- what stands at a place
 
 // The text ends where something is expected, or the place is past it.
@@ -59,9 +40,9 @@ fn ended_at(s: &[u8], at: usize, number: u32) -> Refusal
     ensures { λ r. ⌜ r ≡ endedAt number (now (s .entry)) at ⌝ }
 {
     if s.len() < at {
-        return refusal(16, 0, 0);
+        return refusal_at(16, 0, 0);
     }
-    refusal(number, at, 0)
+    refusal_at(number, at, 0)
 }
 
 // An unsigned number of 32 bits.
@@ -70,7 +51,7 @@ pub fn number_at(s: &[u8], at: usize) -> Number
 {
     match digits::run_at(s, at, 4_294_967_295) {
         Run::Value(n, next) => Number::Value(n as u32, next),
-        Run::Over => Number::Refused(refusal(11, at, 0)),
+        Run::Over => Number::Refused(refusal_at(11, at, 0)),
         Run::Empty => {
             if at < s.len() {
                 Number::Refused(byte_refusal(9, at, s[at]))
@@ -99,10 +80,10 @@ fn signed_run(s: &[u8], negative: bool, at: usize, first: usize, none: Refusal) 
     match digits::run_at(s, first, limit(negative)) {
         Run::Value(n, next) => match whole::signed(negative, n) {
             Narrowed::Fits(y) => SignedNumber::Value(y, next),
-            Narrowed::Above => SignedNumber::Refused(refusal(11, at, 0)),
-            Narrowed::Below => SignedNumber::Refused(refusal(11, at, 0)),
+            Narrowed::Above => SignedNumber::Refused(refusal_at(11, at, 0)),
+            Narrowed::Below => SignedNumber::Refused(refusal_at(11, at, 0)),
         },
-        Run::Over => SignedNumber::Refused(refusal(11, at, 0)),
+        Run::Over => SignedNumber::Refused(refusal_at(11, at, 0)),
         Run::Empty => SignedNumber::Refused(none),
     }
 }
@@ -114,10 +95,10 @@ pub fn signed_at(s: &[u8], at: usize) -> SignedNumber
     if at < s.len() {
         let b = s[at];
         if b == b'-' {
-            return signed_run(s, true, at, at + 1, refusal(10, at, 0));
+            return signed_run(s, true, at, at + 1, refusal_at(10, at, 0));
         }
         if b == b'+' {
-            return signed_run(s, false, at, at + 1, refusal(10, at, 0));
+            return signed_run(s, false, at, at + 1, refusal_at(10, at, 0));
         }
         return signed_run(s, false, at, at, byte_refusal(9, at, b));
     }
@@ -141,7 +122,7 @@ pub fn end_at(s: &[u8], at: usize) -> End
     ensures { λ r. ⌜ EndAt (now (s .entry)) at r ⌝ }
 {
     if s.len() < at {
-        return End::Refused(refusal(16, 0, 0));
+        return End::Refused(refusal_at(16, 0, 0));
     }
     if s.len() <= at {
         return End::Reached;

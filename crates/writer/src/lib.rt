@@ -68,7 +68,7 @@ pub fn put_at(buf: &mut [u8], at: usize, negative: bool, n: u64) -> Written
         let end = put_signed(buf, at, negative, n, k);
         return Written::Done(end);
     }
-    Written::Refused(numbertext::refusal(18, 0, size as u32))
+    Written::Refused(refusals::refusal_with(18, size as u32))
 }
 
 // A number with no padding, from `at` on: the answer tells the place after it.
@@ -100,7 +100,7 @@ pub fn write_ymd(buf: &mut [u8], year: i32, month: u32, day: u32) -> Written
     let kd = decimals::width(d);
     let size = signed_width(negative, ky) + km + kd + 2;
     if buf.len() < size {
-        return Written::Refused(numbertext::refusal(18, 0, size as u32));
+        return Written::Refused(refusals::refusal_with(18, size as u32));
     }
     let second = put_signed(buf, 0, negative, n, ky);
     let third = put_dashed(buf, second, m, km);

@@ -20,8 +20,8 @@ enum-known-end c = search needs
 enum-told : tie.Need-enum-told
 enum-told c = search needs
 
-refusal-requires : tie.Need-refusal-requires
-refusal-requires c κs = search needs
+refusal-with-requires : tie.Need-refusal-with-requires
+refusal-with-requires c κs = search needs
 
 same-length : tie.Need-same-length
 same-length c = search needs
@@ -35,7 +35,7 @@ same-length-2 c = search needs
 
 returns-2 : tie.Need-returns-2
 unfolding header bytes
-returns-2 c = header-left refl refl (rw (c .before .enum-told .given .1) at (c .before .before .before .before .before .copy-text .ensures)) (c .refusal .ensures)
+returns-2 c = header-left refl refl (rw (c .before .enum-told .given .1) at (c .before .before .before .before .before .copy-text .ensures)) (c .refusal-with .ensures)
 
 pub put-header-spec : {M : Type 1} → statement M
 put-header-spec =
@@ -45,7 +45,7 @@ put-header-spec =
     copy-text-requires
     enum-known-end
     enum-told
-    refusal-requires
+    refusal-with-requires
     same-length
     returns
     same-length-2

@@ -29,8 +29,8 @@ is-month-requires c κs = search needs
 month-on-requires : tie.Need-month-on-requires
 month-on-requires c κs = search needs
 
-refusal-requires : tie.Need-refusal-requires
-refusal-requires c κs = search needs
+refusal-at-requires : tie.Need-refusal-at-requires
+refusal-at-requires c κs = search needs
 
 returns : tie.Need-returns
 returns c =
@@ -50,7 +50,7 @@ returns-2 c =
 returns-3 : tie.Need-returns-3
 returns-3 c =
     let a = c .before .before .before .before .before .before .before .before .before .args in
-    ap Text.Refused (c .refusal .ensures)
+    ap Text.Refused (c .refusal-at .ensures)
     ∙ sym (ap (afterSecond (now (a .text)) (a .year) (a .at)) (sym (number-is (c .before .before .before .before .before .before .before .number-at .ensures)) ∙ c .before .before .before .before .before .n .given .1)
     ∙ pick-yes _ _ (lt-ltb _ _ (c .before .before .before .if1 .taken)) ∙ pick-no _ _ (sym (c .before .before .is-month .ensures) ∙ c .before .if2 .left))
 
@@ -70,7 +70,7 @@ second-on-spec =
     enum-known-n
     is-month-requires
     month-on-requires
-    refusal-requires
+    refusal-at-requires
     returns
     returns-2
     returns-3

@@ -25,11 +25,11 @@ has-room-requires c κs = search needs
 returns-2 : tie.Need-returns-2
 returns-2 c = last-none (c .before .before .if1 .left) (leb-true _ _ (sym (c .before .has-room .ensures) ∙ c .if2 .taken))
 
-refusal-requires : tie.Need-refusal-requires
-refusal-requires c κs = search needs
+refusal-with-requires : tie.Need-refusal-with-requires
+refusal-with-requires c κs = search needs
 
 returns-3 : tie.Need-returns-3
-returns-3 c = last-left (c .before .before .before .if1 .left) (leb-false _ _ (sym (c .before .before .has-room .ensures) ∙ c .before .if2 .left)) (c .refusal .ensures)
+returns-3 c = last-left (c .before .before .before .if1 .left) (leb-false _ _ (sym (c .before .before .has-room .ensures) ∙ c .before .if2 .left)) (c .refusal-with .ensures)
 
 pub list-last-spec : {M : Type 1} → statement M
 list-last-spec =
@@ -41,5 +41,5 @@ list-last-spec =
     returns
     has-room-requires
     returns-2
-    refusal-requires
+    refusal-with-requires
     returns-3)

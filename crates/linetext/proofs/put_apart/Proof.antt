@@ -26,11 +26,11 @@ enum-known-end c = search needs
 enum-told : tie.Need-enum-told
 enum-told c = search needs
 
-cast-refusal : tie.Need-cast-refusal
-cast-refusal c = search needs
+cast-refusal-with : tie.Need-cast-refusal-with
+cast-refusal-with c = search needs
 
-refusal-requires : tie.Need-refusal-requires
-refusal-requires c κs = search needs
+refusal-with-requires : tie.Need-refusal-with-requires
+refusal-with-requires c κs = search needs
 
 same-length : tie.Need-same-length
 same-length c = search needs
@@ -42,7 +42,7 @@ same-length-2 : tie.Need-same-length-2
 same-length-2 c = search needs
 
 returns-2 : tie.Need-returns-2
-returns-2 c = apart-left (lined (c .before .before .before .before .before .before .before .before .before .put-either .ensures)) (rw (c .before .enum-told .given .1) at (c .before .before .before .before .before .copy-text .ensures)) (c .refusal .ensures)
+returns-2 c = apart-left (lined (c .before .before .before .before .before .before .before .before .before .put-either .ensures)) (rw (c .before .enum-told .given .1) at (c .before .before .before .before .before .copy-text .ensures)) (c .refusal-with .ensures)
 
 pub put-apart-spec : {M : Type 1} → statement M
 put-apart-spec =
@@ -55,8 +55,8 @@ put-apart-spec =
     copy-text-requires
     enum-known-end
     enum-told
-    cast-refusal
-    refusal-requires
+    cast-refusal-with
+    refusal-with-requires
     same-length
     returns
     same-length-2

@@ -8,11 +8,11 @@ use borrow.Author.Needs.{needs}
 use Rattle.numbertext.proofs.end_at.Statement.{statement}
 use Rattle.numbertext.proofs.end_at.Tie as tie
 
-refusal-requires : tie.Need-refusal-requires
-refusal-requires c κs = search needs
+refusal-at-requires : tie.Need-refusal-at-requires
+refusal-at-requires c κs = search needs
 
 returns : tie.Need-returns
-returns c = end-meant (ap End.Refused (c .refusal .ensures) ∙ sym (end-past _ _ (c .before .if1 .taken)))
+returns c = end-meant (ap End.Refused (c .refusal-at .ensures) ∙ sym (end-past _ _ (c .before .if1 .taken)))
 
 returns-2 : tie.Need-returns-2
 returns-2 c = end-meant (sym (end-reached _ _ (c .before .if1 .left) (c .if2 .taken)))
@@ -30,7 +30,7 @@ pub end-at-spec : {M : Type 1} → statement M
 end-at-spec =
     tie.close
     (tie.spec
-    refusal-requires
+    refusal-at-requires
     returns
     returns-2
     shared-slice-read-byte-refusal

@@ -26,8 +26,8 @@ cast-t7 c = record { fits = le-lt (run-within _ _ _ (sym (c .before .before .bef
 enum-told : tie.Need-enum-told
 enum-told c = search needs
 
-refusal-requires : tie.Need-refusal-requires
-refusal-requires c κs = search needs
+refusal-at-requires : tie.Need-refusal-at-requires
+refusal-at-requires c κs = search needs
 
 enum-told-2 : tie.Need-enum-told-2
 enum-told-2 c = search needs
@@ -45,7 +45,7 @@ returns : tie.Need-returns
 returns c = number-meant (sym (number-value _ _ (c .before .before .before .run-at .ensures) (c .before .n .given .1)))
 
 returns-2 : tie.Need-returns-2
-returns-2 c = number-meant (ap Number.Refused (c .refusal .ensures) ∙ sym (number-over _ _ (c .before .before .before .run-at .ensures) (c .before .enum-told .given .1)))
+returns-2 c = number-meant (ap Number.Refused (c .refusal-at .ensures) ∙ sym (number-over _ _ (c .before .before .before .run-at .ensures) (c .before .enum-told .given .1)))
 
 returns-3 : tie.Need-returns-3
 returns-3 c = number-meant (ap Number.Refused (c .byte-refusal .ensures) ∙ sym (number-other _ _ (c .before .before .before .before .before .run-at .ensures) (c .before .before .before .enum-told2 .given .1) (c .before .before .if1 .taken)))
@@ -61,7 +61,7 @@ number-at-spec =
     enum-known-n
     cast-t7
     enum-told
-    refusal-requires
+    refusal-at-requires
     enum-told-2
     shared-slice-read-byte-refusal
     byte-refusal-requires

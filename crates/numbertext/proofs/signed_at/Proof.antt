@@ -14,26 +14,26 @@ shared-slice-read-b c = search needs
 add-signed-run : tie.Need-add-signed-run
 add-signed-run c = search needs
 
-refusal-requires : tie.Need-refusal-requires
-refusal-requires c κs = search needs
+refusal-at-requires : tie.Need-refusal-at-requires
+refusal-at-requires c κs = search needs
 
 signed-run-requires : tie.Need-signed-run-requires
 signed-run-requires c κs = search needs
 
 returns : tie.Need-returns
-returns c = signed-meant (c .signed-run .ensures ∙ signed-none _ _ _ _ (c .before .refusal .ensures) ∙ sym (signed-dash _ _ (c .before .before .before .before .if1 .taken) (c .before .before .if2 .taken)))
+returns c = signed-meant (c .signed-run .ensures ∙ signed-none _ _ _ _ (c .before .refusal-at .ensures) ∙ sym (signed-dash _ _ (c .before .before .before .before .if1 .taken) (c .before .before .if2 .taken)))
 
 add-signed-run-2 : tie.Need-add-signed-run-2
 add-signed-run-2 c = search needs
 
-refusal-requires-2 : tie.Need-refusal-requires-2
-refusal-requires-2 c κs = search needs
+refusal-at-requires-2 : tie.Need-refusal-at-requires-2
+refusal-at-requires-2 c κs = search needs
 
 signed-run-requires-2 : tie.Need-signed-run-requires-2
 signed-run-requires-2 c κs = search needs
 
 returns-2 : tie.Need-returns-2
-returns-2 c = signed-meant (c .signed-run2 .ensures ∙ signed-none _ _ _ _ (c .before .refusal2 .ensures) ∙ sym (signed-plus _ _ (c .before .before .before .before .before .if1 .taken) (c .before .before .before .if2 .left) (c .before .before .if3 .taken)))
+returns-2 c = signed-meant (c .signed-run2 .ensures ∙ signed-none _ _ _ _ (c .before .refusal-at2 .ensures) ∙ sym (signed-plus _ _ (c .before .before .before .before .before .if1 .taken) (c .before .before .before .if2 .left) (c .before .before .if3 .taken)))
 
 byte-refusal-requires : tie.Need-byte-refusal-requires
 byte-refusal-requires c κs = search needs
@@ -56,11 +56,11 @@ signed-at-spec =
     (tie.spec
     shared-slice-read-b
     add-signed-run
-    refusal-requires
+    refusal-at-requires
     signed-run-requires
     returns
     add-signed-run-2
-    refusal-requires-2
+    refusal-at-requires-2
     signed-run-requires-2
     returns-2
     byte-refusal-requires

@@ -25,20 +25,20 @@ enum-known-y c = search needs
 enum-told : tie.Need-enum-told
 enum-told c = search needs
 
-refusal-requires : tie.Need-refusal-requires
-refusal-requires c κs = search needs
+refusal-at-requires : tie.Need-refusal-at-requires
+refusal-at-requires c κs = search needs
 
 enum-told-2 : tie.Need-enum-told-2
 enum-told-2 c = search needs
 
-refusal-requires-2 : tie.Need-refusal-requires-2
-refusal-requires-2 c κs = search needs
+refusal-at-requires-2 : tie.Need-refusal-at-requires-2
+refusal-at-requires-2 c κs = search needs
 
 enum-told-3 : tie.Need-enum-told-3
 enum-told-3 c = search needs
 
-refusal-requires-3 : tie.Need-refusal-requires-3
-refusal-requires-3 c κs = search needs
+refusal-at-requires-3 : tie.Need-refusal-at-requires-3
+refusal-at-requires-3 c κs = search needs
 
 enum-told-4 : tie.Need-enum-told-4
 enum-told-4 c = search needs
@@ -53,7 +53,7 @@ returns-3 : tie.Need-returns-3
 returns-3 c = never-below _ _ _ _ _ (c .before .before .before .before .before .before .before .before .limit .ensures) (c .before .before .before .before .before .before .before .run-at .ensures) (c .before .before .before .before .before .n .given .1) (c .before .before .before .signed .ensures) (c .before .enum-told2 .given .1)
 
 returns-4 : tie.Need-returns-4
-returns-4 c = ap SignedNumber.Refused (c .refusal3 .ensures) ∙ sym (signed-as _ _ _ _ _ (c .before .before .before .before .limit .ensures) (c .before .before .before .run-at .ensures) (c .before .enum-told3 .given .1))
+returns-4 c = ap SignedNumber.Refused (c .refusal-at3 .ensures) ∙ sym (signed-as _ _ _ _ _ (c .before .before .before .before .limit .ensures) (c .before .before .before .run-at .ensures) (c .before .enum-told3 .given .1))
 
 returns-5 : tie.Need-returns-5
 returns-5 c = sym (signed-as _ _ _ _ _ (c .before .before .before .limit .ensures) (c .before .before .run-at .ensures) (c .enum-told4 .given .1))
@@ -68,11 +68,11 @@ signed-run-spec =
     signed-requires
     enum-known-y
     enum-told
-    refusal-requires
+    refusal-at-requires
     enum-told-2
-    refusal-requires-2
+    refusal-at-requires-2
     enum-told-3
-    refusal-requires-3
+    refusal-at-requires-3
     enum-told-4
     returns
     returns-2

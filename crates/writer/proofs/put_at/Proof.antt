@@ -24,14 +24,14 @@ same-length c = search needs
 returns : tie.Need-returns
 returns c = signed-wrote (c .before .before .before .before .before .before .before .before .before .args .negative) _ _ _ _ _ (c .before .before .before .before .before .before .before .width .ensures .0) (c .before .before .before .before .before .before .signed-width .ensures .0) (c .before .before .before .before .before .has-room .ensures) (c .before .before .before .before .if1 .taken) (c .before .before .put-signed .ensures)
 
-cast-refusal : tie.Need-cast-refusal
-cast-refusal c = search needs
+cast-refusal-with : tie.Need-cast-refusal-with
+cast-refusal-with c = search needs
 
-refusal-requires : tie.Need-refusal-requires
-refusal-requires c κs = search needs
+refusal-with-requires : tie.Need-refusal-with-requires
+refusal-with-requires c κs = search needs
 
 returns-2 : tie.Need-returns-2
-returns-2 c = signed-left (c .before .before .before .before .before .before .args .negative) _ _ _ _ _ (c .before .before .before .before .width .ensures .0) (c .before .before .before .signed-width .ensures .0) (c .before .before .has-room .ensures) (c .before .if1 .left) (c .refusal .ensures)
+returns-2 c = signed-left (c .before .before .before .before .before .before .args .negative) _ _ _ _ _ (c .before .before .before .before .width .ensures .0) (c .before .before .before .signed-width .ensures .0) (c .before .before .has-room .ensures) (c .before .if1 .left) (c .refusal-with .ensures)
 
 pub put-at-spec : {M : Type 1} → statement M
 put-at-spec =
@@ -43,6 +43,6 @@ put-at-spec =
     put-signed-requires
     same-length
     returns
-    cast-refusal
-    refusal-requires
+    cast-refusal-with
+    refusal-with-requires
     returns-2)

@@ -41,18 +41,18 @@ add-size-2 c = search needs
 add-size-3 : tie.Need-add-size-3
 add-size-3 c = search needs
 
-cast-refusal : tie.Need-cast-refusal
-cast-refusal c = search needs
+cast-refusal-with : tie.Need-cast-refusal-with
+cast-refusal-with c = search needs
 
-refusal-requires : tie.Need-refusal-requires
-refusal-requires c κs = search needs
+refusal-with-requires : tie.Need-refusal-with-requires
+refusal-with-requires c κs = search needs
 
 returns : tie.Need-returns
 returns c =
     let a = c .before .before .before .before .before .before .before .before .before .before .args in
     let r = toZ-ofZ (sfits-of (c .before .before .before .before .before .before .before .before .widened .ok)) ∙ c .before .before .before .before .before .before .before .before .widened .ensures ∙ toZ-ofZ (c .before .before .before .before .before .before .before .before .before .before .fits .year) in
     ymd-left (a .year) (a .month) (a .day) (c .before .before .before .before .before .before .before .is-negative .ensures ∙ ap isNegative r) (c .before .before .before .before .before .before .magnitude .ensures ∙ ap natAbs r)
-    (c .before .before .before .before .before .width .ensures .0) (c .before .before .before .before .width2 .ensures .0) (c .before .before .before .width3 .ensures .0) (c .before .before .signed-width .ensures .0) _ (c .before .if1 .taken) (c .refusal .ensures)
+    (c .before .before .before .before .before .width .ensures .0) (c .before .before .before .before .width2 .ensures .0) (c .before .before .before .width3 .ensures .0) (c .before .before .signed-width .ensures .0) _ (c .before .if1 .taken) (c .refusal-with .ensures)
 
 put-signed-requires : tie.Need-put-signed-requires
 put-signed-requires c κs = search needs
@@ -109,8 +109,8 @@ write-ymd-spec =
     add-size
     add-size-2
     add-size-3
-    cast-refusal
-    refusal-requires
+    cast-refusal-with
+    refusal-with-requires
     returns
     put-signed-requires
     put-dashed-requires
