@@ -11,8 +11,8 @@ use lib.IntN.{ℤ, pos, negsuc}
 use lib.Signed.{ltZ}
 use borrow.Author.Tests.{ltb-true}
 use Rattle.io.specs.Counts.{clamped}
-use Rattle.buffer.specs.Buffer.{put, Copies}
-use Rattle.buffer.specs.declared.Copied.{Copied}
+use Rattle.writer.specs.Promise.{put, Copies}
+use Rattle.writer.specs.declared.buffer.Copied.{Copied}
 use Rattle.filter.specs.declared.Phase.{Phase}
 use Rattle.filter.specs.declared.Phase.the-variants.{Reading, Midway, Closing, Failing, Ended}
 use Rattle.filter.specs.declared.Event.the-variants.{Block, InputEnds, Unread}

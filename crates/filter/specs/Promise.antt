@@ -6,7 +6,7 @@ use mathlib.Core.Bool.{Bool, true, false}
 use mathlib.Core.List.{List}
 use lib.ListN.{length}
 use lib.IntN.{ℤ, pos, negsuc}
-use Rattle.buffer.specs.Buffer.{put}
+use Rattle.writer.specs.Promise.{put}
 use Rattle.filter.specs.declared.Phase.{Phase}
 use Rattle.filter.specs.declared.Phase.the-variants.{Reading, Midway, Closing, Failing, Ended}
 use Rattle.filter.specs.declared.Event.{Event}

@@ -4,7 +4,8 @@
 ghost use mathlib.Core.Path.{_≡_};
 ghost use lib.ListN.{take};
 ghost use Rattle.filter.specs.Promise.{goesOn, outputOf, roomOf, arrivedOf, eventOf, stateWith, Says};
-use buffer::Copied;
+use writer::buffer;
+use writer::buffer::Copied;
 
 // What comes next, once the output is written.
 pub enum Phase {

@@ -8,9 +8,9 @@ use native.Mathlib.Nat.{zero-add}
 use native.Mathlib.Omega.{arith}
 use lib.ListN.{length, take}
 use lib.IntN.{ℤ}
-use Rattle.names.specs.Table.{bytes}
-use Rattle.buffer.specs.Buffer.{put}
-use Rattle.writer.specs.Writing.{Puts, Writes}
+use Rattle.whole.specs.Text.{bytes}
+use Rattle.writer.specs.Promise.{put}
+use Rattle.writer.specs.Promise.{Puts, Writes}
 use Rattle.writer.specs.declared.Written.{Written}
 use Rattle.refusals.specs.declared.Refusal.{Refusal}
 use Rattle.columns.specs.Columns.{header}

@@ -5,7 +5,7 @@ use mathlib.Core.Path.{_≡_, refl, ap}
 use mathlib.Core.List.{List}
 use native.Mathlib.Omega.{arith}
 use lib.ListN.{length}
-use Rattle.buffer.specs.Buffer.{put}
+use Rattle.writer.specs.Promise.{put}
 use Rattle.heldline.specs.One.{last-line-one}
 use Rattle.listing.specs.Blocks.{Stand}
 use Rattle.listing.specs.One.{lists-one}

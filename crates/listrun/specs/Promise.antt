@@ -3,8 +3,8 @@
 use Prim.Native.Nat.{ℕ, _≤_, _<_}
 use mathlib.Core.List.{List}
 use lib.ListN.{length, take}
-use Rattle.names.specs.Table.{bytes}
-use Rattle.buffer.specs.Buffer.{put}
+use Rattle.whole.specs.Text.{bytes}
+use Rattle.writer.specs.Promise.{put}
 use Rattle.columns.specs.Columns.{header}
 use Rattle.heldline.specs.Held.{LastLine}
 use Rattle.listing.specs.Blocks.{stand, Lists}

@@ -12,7 +12,7 @@ use native.Mathlib.Omega.{arith}
 use lib.ListN.{length, take, drop, length-take, take-append-drop, drop-of-length-le}
 use lib.Seq.{take-all, take-at, drop-drop}
 use lib.IntN.{ℤ, pos}
-use Rattle.buffer.specs.Buffer.{put}
+use Rattle.writer.specs.Promise.{put}
 use Rattle.columns.specs.Columns.{header}
 use Rattle.listing.specs.Lines.{Listing}
 use Rattle.listing.specs.Blocks.{stand, Lists, lists-on, lists-grow}

@@ -2,7 +2,7 @@
 -- Assumes nothing.
 use mathlib.Core.Path.{sym, refl}
 use mir.Facts.{toZ-ofZ}
-use Rattle.names.specs.Table.{bytes}
+use Rattle.whole.specs.Text.{bytes}
 use Rattle.listrun.specs.Promise.{GoesOn, unread, unwritten}
 use Rattle.listrun.specs.Laws.{goes}
 use borrow.Author.Needs.{needs}
