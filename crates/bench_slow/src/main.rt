@@ -125,7 +125,7 @@ fn calendar_of(letter: u8) -> Calendar {
     match letter {
         b'J' => Calendar::Julian,
         b'G' => Calendar::Gregorian,
-        b'R' => Calendar::Reforming(2_299_161),
+        b'R' => Calendar::REFORM1582,
         _ => Calendar::Reforming(0),
     }
 }
