@@ -18,7 +18,7 @@ abbrev μ-loop : tie.MeasureT-loop
 μ-loop name own i₀ i = length own - i
 
 returns : tie.Need-returns Inv-loop μ-loop
-returns c = λ e. c .if1 .taken (ap length e)
+returns c = λ e. omega (arith, ap length e)
 
 loop-holds : tie.Need-loop-holds Inv-loop μ-loop
 loop-holds c = (omega arith, λ j h. absurd (not-suc-le-zero h))
