@@ -1,5 +1,6 @@
 // Dates from text and text from dates. A text is read whole before the calendar is asked, and a refusal about one of its numbers has that
 // number's place.
+// For users.
 
 ghost use mathlib.Core.Path.{_≡_};
 ghost use Rattle.dateparse.specs.Promise.{placedAt, ParseDate, WriteDate};

@@ -1,5 +1,6 @@
 // The text of a date: YEAR-ORDINAL or YEAR-MONTH-DAY, read. Each call answers for any bytes. `usual` reads the texts that most are, and any text by what
 // is here.
+// For users: `read_date`, for texts without a calendar.
 mod usual;
 
 ghost use mathlib.Core.Path.{_≡_};

@@ -1,4 +1,5 @@
 // Digits in text: the run of them that stands at a place of the bytes, and one or two of them. Each call answers for any bytes and any place.
+// For the crates above.
 
 ghost use mathlib.Core.Path.{_≡_};
 ghost use lib.ListN.{drop};

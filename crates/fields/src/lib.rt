@@ -1,4 +1,5 @@
 // The numbers of a date that its day and its calendar determine, and whether two dates agree in all of them.
+// For the crates above.
 
 ghost use Rattle.fields.specs.Same.{IsSame};
 

@@ -1,5 +1,7 @@
 // The conversions of one reckoning, Julian or Gregorian: leap years, day number to year and ordinal and back.
 // Days and years go through as naturals: a number of 32 bits is raised by 2147483648 on its way in, so that no sum has a sign.
+// For users: the leap years, `jdn2julian`, `jdn2gregorian`, `julian2jdn`, `gregorian2jdn`, and the days that have names. For the crates above: the same on
+// biased days and years.
 
 ghost use mathlib.Core.Path.{_≡_};
 ghost use Prim.Native.Nat.{_<_};

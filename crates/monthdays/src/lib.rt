@@ -1,4 +1,5 @@
 // The days of the months of a year: ordinal to month and day and back.
+// For the crates above.
 
 ghost use mathlib.Core.Path.{_≡_};
 ghost use Prim.Native.Nat.{_+_, _≤_};

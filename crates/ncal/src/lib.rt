@@ -1,4 +1,5 @@
 // The calendars of the countries that `ncal` knows, and calendars by name.
+// For users.
 
 ghost use mathlib.Core.Path.{_≡_};
 ghost use Rattle.ncal.specs.Table.{row, table};

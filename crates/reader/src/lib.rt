@@ -1,4 +1,5 @@
 // A reader that holds the caller's bytes and how far it has read: thin functions over the reads at a place of `numbertext`.
+// For users.
 
 ghost use mathlib.Core.Path.{_≡_};
 ghost use Rattle.numbertext.specs.Promise.{NumberAt, SignedAt, DashAt, EndAt};

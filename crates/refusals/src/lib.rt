@@ -1,4 +1,5 @@
 // What every refused call answers.
+// For users: `Refusal`. For the crates above: the functions that make one.
 
 ghost use mathlib.Core.Path.{_≡_};
 ghost use lib.IntN.{pos};

@@ -1,4 +1,5 @@
 // Unix time: the day and the date of a number of seconds since 1970, and the seconds into that day.
+// For users: `unix2jdn`, `jdn2unix`, `at_unix_time`. For the crates above: `seconds`.
 pub mod seconds;
 
 ghost use Rattle.unixtime.specs.Promise.{Unix2Jdn, AtUnixTime};

@@ -1,5 +1,6 @@
 // Walkers: a walker goes from a date to later dates, or to earlier ones, and gives one date for each step. It is ended as soon as it has
 // no date left to give. A step that is refused changes nothing in it.
+// For users.
 
 ghost use mathlib.Core.Path.{_≡_};
 ghost use Rattle.calendar.specs.Calendars.{IsRecord, Genuine};

@@ -1,5 +1,6 @@
 // The four ways that walkers go, by day numbers: which day lies ahead, which day a step gives, which day the walker holds after it, and when
 // it is ended.
+// For users: `Kind`, the kind of a walker. For the crates above: all else.
 
 ghost use mathlib.Core.Path.{_≡_};
 ghost use Rattle.days.specs.DayByDay.{Is32Bit};

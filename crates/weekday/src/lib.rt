@@ -1,4 +1,5 @@
 // The days of the week, from 1, a Monday, to 7.
+// For users.
 
 ghost use mathlib.Core.Path.{_≡_};
 ghost use Rattle.days.specs.DayByDay.{weekday};

@@ -1,4 +1,5 @@
 // Numbers and year-month-day texts, written into a buffer that is lent. Each call answers for any buffer and any place.
+// For users: `write_ymd`, `put_number`, `put_whole`, and `Written`. For the crates above: all else.
 pub mod buffer;
 pub mod decimals;
 
