@@ -9,20 +9,20 @@ use lib.Seq.{drop-cons}
 use lib.Bits.{bitOr, or-add-and, and-le-l, and-le-r}
 use Rattle.bytesearch.specs.Promise.{Without, UpTo}
 
--- ---- the bytes from `from` to i go without b
+-- ---- no byte from `from` up to i is b
 
 pub record Going (b : ℕ) (s : List ℕ) (from i : ℕ) : Type 0 where
   pub passed : List ℕ
   pub is : drop from s ≡ passed ++ drop i s
   pub without : Without b passed
-  pub place : i ≡ from + length passed
+  pub offset : i ≡ from + length passed
 
 pub without-both : {b : ℕ} {p q : List ℕ} → Without b p → Without b q → Without b (p ++ q)
 without-both Without.none v = v
 without-both (Without.more n w) v = Without.more n (without-both w v)
 
 pub going-start : (b : ℕ) (s : List ℕ) (from : ℕ) → Going b s from from
-going-start b s from = record { passed = []; is = refl; without = Without.none; place = omega arith }
+going-start b s from = record { passed = []; is = refl; without = Without.none; offset = omega arith }
 
 none-left : (l : List ℕ) → length l ≤ 0 → l ≡ []
 none-left [] h = refl
@@ -30,36 +30,36 @@ none-left (x ∷ l) h = absurd (omega arith)
 
 module _ {b : ℕ} {s : List ℕ} {from i : ℕ} (g : Going b s from i) where
   far : {r : ℕ} (q : List ℕ) → r ≡ i + length q → r ≡ from + length (g .passed ++ q)
-  far q p = omega (arith, p, g .place, length-append (g .passed) q)
+  far q p = omega (arith, p, g .offset, length-append (g .passed) q)
 
-  -- from there on further
+  -- and none from there up to j
   pub going-further : {j : ℕ} → Going b s i j → Going b s from j
   going-further {j} f =
       record {
         passed = g .passed ++ f .passed;
         is = g .is ∙ ap (λ (x : List ℕ). g .passed ++ x) (f .is) ∙ sym (append-assoc (g .passed) (f .passed) (drop j s));
         without = without-both (g .without) (f .without);
-        place = far (f .passed) (f .place);
+        offset = far (f .passed) (f .offset);
       }
 
   pub going-on : i < length s → (getD s i 0 ≡ b → ⊥) → Going b s from (i + 1)
-  going-on h n = going-further (record { passed = getD s i 0 ∷ []; is = drop-cons s i 0 h ∙ ap (λ (k : ℕ). getD s i 0 ∷ drop k s) one-on; without = Without.more n Without.none; place = refl })
+  going-on h n = going-further (record { passed = getD s i 0 ∷ []; is = drop-cons s i 0 h ∙ ap (λ (k : ℕ). getD s i 0 ∷ drop k s) one-on; without = Without.more n Without.none; offset = refl })
     where
       one-on : suc i ≡ i + 1
       one-on = omega arith
 
   pub going-found : i < length s → getD s i 0 ≡ b → UpTo b s from i
-  going-found h e = UpTo.stands (drop (suc i) s) (g .is ∙ ap (λ (x : List ℕ). g .passed ++ x) (drop-cons s i 0 h ∙ ap (λ (x : ℕ). x ∷ drop (suc i) s) e)) (g .without) (g .place)
+  going-found h e = UpTo.stands (drop (suc i) s) (g .is ∙ ap (λ (x : List ℕ). g .passed ++ x) (drop-cons s i 0 h ∙ ap (λ (x : ℕ). x ∷ drop (suc i) s) e)) (g .without) (g .offset)
 
   pub going-ended : length s ≤ i → UpTo b s from i
-  going-ended h = UpTo.ends (g .is ∙ ap (λ (x : List ℕ). g .passed ++ x) (none-left (drop i s) (omega (arith, length-drop i s))) ∙ append-nil (g .passed)) (g .without) (g .place)
+  going-ended h = UpTo.ends (g .is ∙ ap (λ (x : List ℕ). g .passed ++ x) (none-left (drop i s) (omega (arith, length-drop i s))) ∙ append-nil (g .passed)) (g .without) (g .offset)
 
   -- what is found from there on is found from the beginning
   pub going-then : {r : ℕ} → UpTo b s i r → UpTo b s from r
   going-then (UpTo.stands {q} u e w p) = UpTo.stands u (g .is ∙ ap (λ (x : List ℕ). g .passed ++ x) e ∙ sym (append-assoc (g .passed) q (b ∷ u))) (without-both (g .without) w) (far q p)
   going-then (UpTo.ends {q} e w p) = UpTo.ends (g .is ∙ ap (λ (x : List ℕ). g .passed ++ x) e) (without-both (g .without) w) (far q p)
 
--- the place that is found lies in the bytes, or at their end
+-- the offset that is found lies in the bytes, or at their end
 pub up-to-inside : {b : ℕ} {s : List ℕ} {from r : ℕ} → UpTo b s from r → from ≤ length s → (from ≤ r) × (r ≤ length s)
 up-to-inside {b} {s} {from} (UpTo.stands {q} u e w p) h = (omega arith, omega (arith, ap length e, length-append q (b ∷ u), length-drop from s))
 up-to-inside {b} {s} {from} (UpTo.ends {q} e w p) h = (omega arith, omega (arith, ap length e, length-drop from s))
@@ -106,7 +106,7 @@ module _ {b : ℕ} {s : List ℕ} {at : ℕ} (h : at + 4 ≤ length s) (n : getD
   pub past-four : (getD s (at + 1) 0 ≡ b → ⊥) → (getD s (at + 2) 0 ≡ b → ⊥) → (getD s (at + 3) 0 ≡ b → ⊥) → Going b s at (at + 4)
   past-four m o p = next 3 (omega arith) (past-three m o) p
 
--- b is among the four bytes, or they are passed
+-- b is among the four bytes, or all four are passed
 module _ {b : ℕ} {s : List ℕ} {from i k : ℕ} (g : Going b s from i) (f : InFour b s i k) where
   pub four-found : i + 4 ≤ length s → k < 4 → UpTo b s from (i + k)
   four-found h l = going-then g (going-found (f .going) (omega arith) (f .found l))
@@ -120,11 +120,11 @@ eight-passed {b} {s} {from} {i} g f h e l = subst (Going b s from) (sum i) (four
     sum : (i : ℕ) → i + 4 + 4 ≡ i + 8
     sum i = omega arith
 
--- every place before r has eight bytes of n from there on
-abbrev pub Turns : ℕ → ℕ → Type 0
-Turns n r = (i : ℕ) → i < r → i + 8 ≤ n
+-- every offset before r has eight bytes of n from there on
+abbrev pub Eights : ℕ → ℕ → Type 0
+Eights n r = (i : ℕ) → i < r → i + 8 ≤ n
 
--- every place before r has sixteen bytes of n from there on
+-- every offset before r has sixteen bytes of n from there on
 abbrev pub Sixteens : ℕ → ℕ → Type 0
 Sixteens n r = (i : ℕ) → i < r → i + 16 ≤ n
 

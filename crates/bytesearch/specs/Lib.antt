@@ -1,4 +1,4 @@
--- The search for a byte. A reader's file is `Promise`: how far bytes go up to one of them. `One` shows that the promise allows one result, and `Laws` has
+-- The search for a byte. A reader's file is `Promise`: where a byte stands first. `One` shows that the promise allows one result, and `Laws` has
 -- how bytes are passed one after another.
 pub mod Promise
 pub mod Laws

@@ -1,4 +1,4 @@
--- Two places that the promise allows for one input are equal.
+-- Two offsets that the promise allows for one input are equal.
 -- Assumes nothing.
 use Prim.Native.Nat.{ℕ, _+_}
 use mathlib.Core.Path.{_≡_, refl, sym, _∙_, ap, ap₂}
@@ -7,7 +7,7 @@ use native.Mathlib.Omega.{arith}
 use lib.ListN.{length}
 use Rattle.bytesearch.specs.Promise.{Without, UpTo}
 
--- ---- a byte parts what comes before it from what comes after
+-- ---- a byte separates what comes before it from what comes after
 
 pub never : _≡_ {A = ℕ} 0 1 → ⊥
 never z = omega arith

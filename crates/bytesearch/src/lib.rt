@@ -4,9 +4,9 @@ ghost use Prim.Native.Nat.{_+_, _<_, _≤_};
 ghost use lib.ListN.{length};
 ghost use Rattle.bytesearch.specs.Promise.{UpTo};
 ghost use mathlib.Core.Path.{_≡_};
-ghost use Rattle.bytesearch.specs.Laws.{InFour, Turns, Going, Sixteens};
+ghost use Rattle.bytesearch.specs.Laws.{InFour, Eights, Going, Sixteens};
 
-// The place of the first `b` from `from` on, or of the end.
+// The offset of the first `b` from `from` on, or of the end.
 fn next_to(s: &[u8], from: usize, b: u8) -> usize
     ensures { λ r. ⌜ UpTo b (now (s .entry)) from r ⌝ }
 {
@@ -40,9 +40,9 @@ fn in_four(s: &[u8], at: usize, b: u8) -> usize
     4
 }
 
-// Every place before this one has eight bytes from there on.
-fn turns_end(len: usize) -> usize
-    ensures { λ r. ⌜ Turns len r ⌝ }
+// Every offset before this one has eight bytes from there on.
+fn eights_end(len: usize) -> usize
+    ensures { λ r. ⌜ Eights len r ⌝ }
 {
     if len < 7 {
         return 0;
@@ -50,11 +50,11 @@ fn turns_end(len: usize) -> usize
     len - 7
 }
 
-// The place of the first `b` from `from` on, or of the end; `from` itself where that lies past the end. Eight bytes are looked at in a turn.
+// The offset of the first `b` from `from` on, or of the end; `from` itself where that lies past the end. Eight bytes are looked at together.
 pub fn by_eights(s: &[u8], from: usize, b: u8) -> usize
     ensures { λ r. ⌜ UpTo b (now (s .entry)) from r ⌝ }
 {
-    let end = turns_end(s.len());
+    let end = eights_end(s.len());
     let mut i = from;
     while i < end {
         let near = in_four(s, i, b);
@@ -98,7 +98,7 @@ fn any_sixteen(s: &[u8], at: usize, b: u8) -> u8
     any_four(s, at, b) | any_four(s, at + 4, b) | any_four(s, at + 8, b) | any_four(s, at + 12, b)
 }
 
-// Every place before this one has sixteen bytes from there on.
+// Every offset before this one has sixteen bytes from there on.
 fn sixteens_end(len: usize) -> usize
     ensures { λ r. ⌜ Sixteens len r ⌝ }
 {
@@ -108,7 +108,7 @@ fn sixteens_end(len: usize) -> usize
     len - 15
 }
 
-// The same as `by_eights`, for a byte that may be far: sixteen are looked at in a turn.
+// The same as `by_eights`, for a byte that may be far: sixteen are looked at together.
 pub fn up_to(s: &[u8], from: usize, b: u8) -> usize
     ensures { λ r. ⌜ UpTo b (now (s .entry)) from r ⌝ }
 {

@@ -7,17 +7,17 @@ use Rattle.calendar.specs.declared.Date.{Date}
 use Rattle.calendar.specs.declared.Dated.{Dated}
 use Rattle.calendar.specs.declared.Dated.the-variants as Dated′
 use Rattle.whole.specs.Text.{bytes}
-use Rattle.linetext.specs.declared.Row.{Row}
+use Rattle.linetext.specs.declared.LineNumbers.{LineNumbers}
 use Rattle.linetext.specs.declared.Line.{Line}
 use Rattle.linetext.specs.declared.Line.the-variants as Line′
 
 -- the columns of a date: its weekday is that of its day number
-abbrev pub rowOf : Date → Row
-rowOf d = record { jdn = d .jdn; year = d .year; ordinal = d .ordinal; month = d .month; day = d .day; weekday = weekday (d .jdn) }
+abbrev pub numbersOf : Date → LineNumbers
+numbersOf d = record { jdn = d .jdn; year = d .year; ordinal = d .ordinal; month = d .month; day = d .day; weekday = weekday (d .jdn) }
 
 -- a refusal has its own
 abbrev pub lineOf : Dated → Line
-lineOf (Dated′.Date d) = Line′.Row (rowOf d)
+lineOf (Dated′.Date d) = Line′.Numbers (numbersOf d)
 lineOf (Dated′.Refused f) = Line′.Refusal f
 
 unfoldable pub header : List ℕ

@@ -12,12 +12,12 @@ use Rattle.writer.specs.Laws.{left-alone}
 use Rattle.writer.specs.declared.Written.{Written}
 use Rattle.refusals.specs.Refusals.{refusal as textRefusal}
 use Rattle.refusals.specs.declared.Refusal.{Refusal}
-use Rattle.linetext.specs.declared.Row.{Row}
+use Rattle.linetext.specs.declared.LineNumbers.{LineNumbers}
 use Rattle.writer.specs.declared.buffer.Copied.{Copied}
-use Rattle.columns.specs.Columns.{header, rowOf}
+use Rattle.columns.specs.Columns.{header, numbersOf}
 
-pub row-is : (d : Date) {j y : ℤ} {w : ℕ} → j ≡ d .jdn → y ≡ d .year → w ≡ weekday (d .jdn) → _≡_ {A = Row} (record { jdn = j; year = y; ordinal = d .ordinal; month = d .month; day = d .day; weekday = w }) (rowOf d)
-row-is d e f g = cc
+pub numbers-are : (d : Date) {j y : ℤ} {w : ℕ} → j ≡ d .jdn → y ≡ d .year → w ≡ weekday (d .jdn) → _≡_ {A = LineNumbers} (record { jdn = j; year = y; ordinal = d .ordinal; month = d .month; day = d .day; weekday = w }) (numbersOf d)
+numbers-are d e f g = cc
 
 pub header-wrote : {t b : List ℕ} {at : ℕ} {b′ : List ℕ} {i : ℕ} → t ≡ header → Copies t b at b′ (Copied.To i) → Writes (λ (u : List ℕ). u ≡ header) b at b′ (Written.Done i)
 header-wrote e (copied h) = Writes.writes e (Puts.done h)

@@ -2,21 +2,22 @@
 
 ghost use mathlib.Core.Path.{_≡_};
 ghost use Rattle.writer.specs.Promise.{Writes};
-ghost use Rattle.columns.specs.Columns.{header, rowOf, lineOf};
+ghost use Rattle.columns.specs.Columns.{header, numbersOf, lineOf};
 use calendar::Date;
 use calendar::Dated;
 use linetext::Line;
-use linetext::Row;
+use linetext::LineNumbers;
 use writer::Written;
 use writer::buffer;
 use writer::buffer::Copied;
 
-fn row_of(date: Date) -> Row
-    ensures { λ r. ⌜ r ≡ rowOf date ⌝ }
+// The numbers in the line of a date.
+fn numbers_of(date: Date) -> LineNumbers
+    ensures { λ r. ⌜ r ≡ numbersOf date ⌝ }
 {
     let day = date.day;
     let weekday = weekday::for_jdn(date.jdn);
-    Row {
+    LineNumbers {
         jdn: whole::widened(date.jdn),
         year: whole::widened(date.year),
         ordinal: date.ordinal as u64,
@@ -26,17 +27,19 @@ fn row_of(date: Date) -> Row
     }
 }
 
+// The line of an answer.
 pub fn line_of(answer: Dated) -> Line
     ensures { λ l. ⌜ l ≡ lineOf answer ⌝ }
 {
     match answer {
-        Dated::Date(date) => Line::Row(row_of(date)),
+        Dated::Date(date) => Line::Numbers(numbers_of(date)),
         Dated::Refused(why) => Line::Refusal(why),
     }
 }
 
 const HEADER: [u8; 35] = *b"jdn\tyear\tordinal\tmonth\tday\tweekday\n";
 
+// The header, from `at` on.
 pub fn put_header(out: &mut [u8], at: usize) -> Written
     ensures { λ r. ⌜ Writes (λ t. t ≡ header) (now (out .entry)) at (now (out .exit)) r ⌝ }
 {

@@ -10,7 +10,7 @@ use mir.Syntax.{w32}
 use mir.Val.{SFits}
 use Rattle.numbertext.specs.Numerals.{Unsigned, Signed}
 use Rattle.writer.specs.Promise.{Decimal, WholeDecimal, YmdDecimal, WriteYmd}
-use Rattle.writer.specs.Decimals.{has-width}
+use Rattle.writer.specs.Laws.{has-width}
 use Rattle.writer.specs.Laws.{ymd-text}
 use Rattle.writer.specs.Theorems.{written-front}
 use Rattle.writer.specs.declared.Written.{Written}

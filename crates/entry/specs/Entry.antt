@@ -19,6 +19,10 @@ use Rattle.dateparse.specs.Promise.{ParseDate}
 abbrev pub tab : ℕ
 tab = 9
 
+-- the bytes of the longest line that is read
+abbrev pub longestEntry : ℕ
+longestEntry = 512
+
 -- a name, a tab, a date text. The name ends at the first tab, or at the line's end, and then the text is empty
 pub data Entry : List ℕ → List ℕ → List ℕ → Type 0 where
   tabbed : {name text : List ℕ} → Without tab name → Entry (name ++ (tab ∷ text)) name text
@@ -30,4 +34,4 @@ pub data ByEntry (l : List ℕ) : Dated → Type 0 where
 
 -- 20; then 19; then what the text comes to
 abbrev pub LineAnswer : List ℕ → Dated → Type 0
-LineAnswer l = If (512 < length l) (Dated′.Refused (refusal 20 (pos 0))) (ByEntry l)
+LineAnswer l = If (longestEntry < length l) (Dated′.Refused (refusal 20 (pos 0))) (ByEntry l)

@@ -10,6 +10,9 @@ use calendar::Calendar;
 use calendar::Dated;
 use calendar::Reformed;
 
+// The longest line that is read.
+pub const LONGEST_ENTRY: usize = 512;
+
 // Where the text of a line begins: after the tab, or at the line's end.
 fn text_from(len: usize, tab: usize) -> usize
     requires { ⌜ tab ≤ len ⌝ }
@@ -40,7 +43,7 @@ fn parsed_from(calendar: Calendar, line: &[u8], from: usize) -> Dated
 pub fn line_answer(line: &[u8]) -> Dated
     ensures { λ a. ⌜ LineAnswer (now (line .entry)) a ⌝ }
 {
-    if 512 < line.len() {
+    if LONGEST_ENTRY < line.len() {
         return Dated::Refused(calendar::refusal_of(20, 0));
     }
     let tab = bytesearch::by_eights(line, 0, b'\t');

@@ -17,7 +17,7 @@ use Rattle.filter.specs.declared.Phase.{Phase}
 use Rattle.filter.specs.declared.Phase.the-variants.{Reading, Midway, Closing, Failing, Ended}
 use Rattle.filter.specs.declared.Event.the-variants.{Block, InputEnds, Unread}
 use Rattle.filter.specs.declared.State.{State}
-use Rattle.filter.specs.Promise.{roomOf, arrivedOf, stateWith, Says}
+use Rattle.filter.specs.Promise.{blockSize, roomOf, arrivedOf, stateWith, PutsMessage}
 
 -- ---- what a read answered
 
@@ -25,12 +25,12 @@ unread′ : (g : ℤ) → ltZ g (pos 0) ≡ true → Unread ≡ arrivedOf g
 unread′ (negsuc k) h = refl
 unread′ (pos k) h = absurd (omega (arith, ltb-true k 0 h))
 
-input-ends′ : (g : ℤ) {n : ℕ} → ltZ g (pos 0) ≡ false → n ≡ clamped g 65536 → n < 1 → InputEnds ≡ arrivedOf g
+input-ends′ : (g : ℤ) {n : ℕ} → ltZ g (pos 0) ≡ false → n ≡ clamped g blockSize → n < 1 → InputEnds ≡ arrivedOf g
 input-ends′ (pos zero) h e i = refl
 input-ends′ (pos (suc k)) h e i = absurd (omega (arith, e))
 input-ends′ (negsuc k) h e i = absurd (true≢false h)
 
-came′ : (g : ℤ) {n : ℕ} → n ≡ clamped g 65536 → 1 ≤ n → Block n ≡ arrivedOf g
+came′ : (g : ℤ) {n : ℕ} → n ≡ clamped g blockSize → 1 ≤ n → Block n ≡ arrivedOf g
 came′ (pos zero) e i = absurd (omega (arith, e))
 came′ (pos (suc k)) e i = ap Block e
 came′ (negsuc k) e i = absurd (omega (arith, e))
@@ -40,15 +40,15 @@ module _ {g z : ℤ} (e : g ≡ z) where
   pub unread : ltZ g (pos 0) ≡ true → Unread ≡ arrivedOf z
   unread h = subst (λ (x : ℤ). Unread ≡ arrivedOf x) e (unread′ g h)
 
-  pub input-ends : {n m : ℕ} → m ≡ 65536 → ltZ g (pos 0) ≡ false → n ≡ clamped g m → n < 1 → InputEnds ≡ arrivedOf z
+  pub input-ends : {n m : ℕ} → m ≡ blockSize → ltZ g (pos 0) ≡ false → n ≡ clamped g m → n < 1 → InputEnds ≡ arrivedOf z
   input-ends l h c i = subst (λ (x : ℤ). InputEnds ≡ arrivedOf x) e (input-ends′ g h (c ∙ ap (clamped g) l) i)
 
-  pub came : {n m : ℕ} → m ≡ 65536 → n ≡ clamped g m → 1 ≤ n → Block n ≡ arrivedOf z
+  pub came : {n m : ℕ} → m ≡ blockSize → n ≡ clamped g m → 1 ≤ n → Block n ≡ arrivedOf z
   came {n} l c i = subst (λ (x : ℤ). Block n ≡ arrivedOf x) e (came′ g (c ∙ ap (clamped g) l) i)
 
 -- ---- the room for a read lies in the block
 
-pub room-fits : (p : Phase) (w : Bool) → roomOf p w ≤ 65536
+pub room-fits : (p : Phase) (w : Bool) → roomOf p w ≤ blockSize
 room-fits Reading true = omega arith
 room-fits Reading false = omega arith
 room-fits Midway w = omega arith
@@ -58,8 +58,8 @@ room-fits Ended w = omega arith
 
 -- ---- a message
 
-pub says-so : {t o o′ : List ℕ} {n : ℕ} {s : State} → Copies t o 0 o′ (Copied.To n) → s ≡ stateWith Failing n → Says t o o′ s
-says-so {t} {o} (Copies.copied h) e = subst (Says t o (put o 0 t)) (sym (e ∙ ap (stateWith Failing) (zero-add (length t)))) (Says.said (omega arith))
+pub message-put : {t o o′ : List ℕ} {n : ℕ} {s : State} → Copies t o 0 o′ (Copied.To n) → s ≡ stateWith Failing n → PutsMessage t o o′ s
+message-put {t} {o} (Copies.copied h) e = subst (PutsMessage t o (put o 0 t)) (sym (e ∙ ap (stateWith Failing) (zero-add (length t)))) (PutsMessage.put-there (omega arith))
 
-pub says-nothing : {t o o′ : List ℕ} {s : State} → Copies t o 0 o′ Copied.NoRoom → s ≡ stateWith Failing 0 → Says t o o′ s
-says-nothing {t} {o} (Copies.no-room h) e = subst (Says t o o) (sym e) (Says.unsaid (omega arith))
+pub message-left-out : {t o o′ : List ℕ} {s : State} → Copies t o 0 o′ Copied.NoRoom → s ≡ stateWith Failing 0 → PutsMessage t o o′ s
+message-left-out {t} {o} (Copies.no-room h) e = subst (PutsMessage t o o) (sym e) (PutsMessage.left-out (omega arith))

@@ -29,9 +29,13 @@ outputOf Closing = pos 1
 outputOf Failing = pos 2
 outputOf Ended = pos 1
 
+-- the bytes of a block
+abbrev pub blockSize : ℕ
+blockSize = 65536
+
 -- a whole block is read, or nothing
 abbrev pub roomOf : Phase → Bool → ℕ
-roomOf Reading true = 65536
+roomOf Reading true = blockSize
 roomOf Reading false = 0
 roomOf Midway w = 0
 roomOf Closing w = 0
@@ -42,7 +46,7 @@ roomOf Ended w = 0
 abbrev pub arrivedOf : ℤ → Event
 arrivedOf (negsuc k) = Unread
 arrivedOf (pos zero) = InputEnds
-arrivedOf (pos (suc k)) = Block (min (suc k) 65536)
+arrivedOf (pos (suc k)) = Block (min (suc k) blockSize)
 
 abbrev pub eventOf : Phase → Bool → ℤ → Event
 eventOf Reading true g = arrivedOf g
@@ -58,6 +62,6 @@ abbrev pub stateWith : Phase → ℕ → State
 stateWith p u = record { phase = p; at = 0; count = 0; held = 0; used = u }
 
 -- the message t stands at the front of the output; one that has no room is left out
-pub data Says (t o : List ℕ) : List ℕ → State → Type 0 where
-  said : length t ≤ length o → Says t o (put o 0 t) (stateWith Failing (length t))
-  unsaid : length o < length t → Says t o o (stateWith Failing 0)
+pub data PutsMessage (t o : List ℕ) : List ℕ → State → Type 0 where
+  put-there : length t ≤ length o → PutsMessage t o (put o 0 t) (stateWith Failing (length t))
+  left-out : length o < length t → PutsMessage t o o (stateWith Failing 0)

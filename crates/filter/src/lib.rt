@@ -3,9 +3,12 @@
 
 ghost use mathlib.Core.Path.{_≡_};
 ghost use lib.ListN.{take};
-ghost use Rattle.filter.specs.Promise.{goesOn, outputOf, roomOf, arrivedOf, eventOf, stateWith, Says};
+ghost use Rattle.filter.specs.Promise.{goesOn, outputOf, roomOf, arrivedOf, eventOf, stateWith, PutsMessage};
 use writer::buffer;
 use writer::buffer::Copied;
+
+// The bytes of a block, and of the output.
+pub const BLOCK_SIZE: usize = 65536;
 
 // What comes next, once the output is written.
 pub enum Phase {
@@ -80,7 +83,7 @@ pub fn room(state: State, written: bool) -> usize
     match phase {
         Phase::Reading => {
             if written {
-                return 65536;
+                return BLOCK_SIZE;
             }
             0
         }
@@ -104,7 +107,7 @@ pub fn front(s: &[u8], size: usize) -> &[u8]
 // ---- What the crates above ask
 
 // What has happened, by whether the output was written and what the read answered.
-pub fn happened(state: State, written: bool, got: isize, block: &[u8; 65536]) -> Event
+pub fn happened(state: State, written: bool, got: isize, block: &[u8; BLOCK_SIZE]) -> Event
     ensures { λ e. ⌜ e ≡ eventOf (state .phase) written got ⌝ }
 {
     let phase = state.phase;
@@ -132,7 +135,7 @@ pub fn happened(state: State, written: bool, got: isize, block: &[u8; 65536]) ->
     }
 }
 
-fn arrived(got: isize, block: &[u8; 65536]) -> Event
+fn arrived(got: isize, block: &[u8; BLOCK_SIZE]) -> Event
     ensures { λ e. ⌜ e ≡ arrivedOf got ⌝ }
 {
     if got < 0 {
@@ -146,8 +149,8 @@ fn arrived(got: isize, block: &[u8; 65536]) -> Event
 }
 
 // The message is put into the output, and the program ends once it is written.
-pub fn say(text: &[u8], out: &mut [u8; 65536]) -> State
-    ensures { λ s. ⌜ Says (now (text .entry)) (now (out .entry)) (now (out .exit)) s ⌝ }
+pub fn say(text: &[u8], out: &mut [u8; BLOCK_SIZE]) -> State
+    ensures { λ s. ⌜ PutsMessage (now (text .entry)) (now (out .entry)) (now (out .exit)) s ⌝ }
 {
     match buffer::copy_text(out, 0, text) {
         Copied::To(used) => state_with(Phase::Failing, used),

@@ -13,31 +13,29 @@ use Rattle.refusals.specs.Refusals.{refusal}
 use Rattle.digits.specs.Numerals.{dash}
 use Rattle.refusals.specs.declared.Refusal.{Refusal}
 use Rattle.writer.specs.Promise.{Copies, copied, no-room, digitsOf, WholeDecimal, Puts, Writes, Signs}
-use Rattle.writer.specs.Buffers.{So, so-on}
+use Rattle.writer.specs.Laws.{PutText, put-on, length-digits, width-few, decimal-of, counting-start, counting-step, wrote, left-alone, whole-text}
 use Rattle.writer.specs.declared.buffer.Copied.{Copied}
-use Rattle.writer.specs.Decimals.{length-digits, width-few, decimal-of, counting-start, counting-step}
-use Rattle.writer.specs.Laws.{wrote, left-alone, whole-text}
 use Rattle.writer.specs.declared.Written.{Written}
-use Rattle.linetext.specs.Line.{newline, tab, mark, Columns, rowColumns, refusalColumns, of-row, of-refusal, Ended, ended, LineOut}
-use Rattle.linetext.specs.declared.Row.{Row}
+use Rattle.linetext.specs.Line.{longestLine, newline, tab, mark, Columns, numberColumns, refusalColumns, of-numbers, of-refusal, Ended, ended, LineOut}
+use Rattle.linetext.specs.declared.LineNumbers.{LineNumbers}
 use Rattle.linetext.specs.declared.Line.{Line}
 use Rattle.linetext.specs.declared.Line.the-variants as Line′
 
--- ---- a text of at most m bytes, as IsText says, stands in the buffer from `at` on, and every other byte is as it was; i is the place after it
+-- ---- a text of at most m bytes, as IsText says, stands in the buffer from `at` on, and every other byte is as it was; i is the offset after it
 
 pub record Text (IsText : List ℕ → Type 0) (m : ℕ) (b : List ℕ) (at : ℕ) (b′ : List ℕ) (i : ℕ) : Type 0 where
   pub text : List ℕ
   pub is : IsText text
   pub short : length text ≤ m
-  pub so : So b at text b′ i
+  pub put : PutText b at text b′ i
 
 module _ {P : List ℕ → Type 0} {m : ℕ} {b : List ℕ} {at : ℕ} {b′ : List ℕ} {i : ℕ} (t : Text P m b at b′ i) where
   pub ends : i ≤ at + m
-  ends = omega (arith, t .so .place, t .short)
+  ends = omega (arith, t .put .offset, t .short)
 
-  -- the same text, said otherwise
+  -- the same text, described otherwise
   pub text-as : {Q : List ℕ → Type 0} {n : ℕ} → ((u : List ℕ) → P u → Q u) → m ≤ n → Text Q n b at b′ i
-  text-as f h = record { text = t .text; is = f (t .text) (t .is); short = omega (arith, t .short); so = t .so }
+  text-as f h = record { text = t .text; is = f (t .text) (t .is); short = omega (arith, t .short); put = t .put }
 
   -- a text after it
   pub text-then : {Q R : List ℕ → Type 0} {k : ℕ} {c : List ℕ} {j : ℕ} → Text Q k b′ i c j → ((u v : List ℕ) → P u → Q v → R (u ++ v)) → at + m + k ≤ length b → Text R (m + k) b at c j
@@ -46,21 +44,18 @@ module _ {P : List ℕ → Type 0} {m : ℕ} {b : List ℕ} {at : ℕ} {b′ : L
         text = t .text ++ s .text;
         is = f (t .text) (s .text) (t .is) (s .is);
         short = omega (arith, length-append (t .text) (s .text), t .short, s .short);
-        so = so-on (t .so) (s .text) (omega (arith, t .short, s .short)) (s .so);
+        put = put-on (t .put) (s .text) (omega (arith, t .short, s .short)) (s .put);
       }
 
-pub so-text : {P : List ℕ → Type 0} {b : List ℕ} {at : ℕ} {t b′ : List ℕ} {i m : ℕ} → P t → length t ≤ m → So b at t b′ i → Text P m b at b′ i
-so-text {t = t} p h s = record { text = t; is = p; short = h; so = s }
+pub put-text : {P : List ℕ → Type 0} {b : List ℕ} {at : ℕ} {t b′ : List ℕ} {i m : ℕ} → P t → length t ≤ m → PutText b at t b′ i → Text P m b at b′ i
+put-text {t = t} p h s = record { text = t; is = p; short = h; put = s }
 
 -- ---- digits
 
-pub so-digit : (k n : ℕ) {b : List ℕ} {at : ℕ} {b₁ b₂ : List ℕ} {i j : ℕ} → at + suc k ≤ length b → So b at (digitsOf k (n / 10)) b₁ i → So b₁ i (digitsOf 1 n) b₂ j → So b at (digitsOf (suc k) n) b₂ j
-so-digit k n h s r = so-on s (digitsOf 1 n) (omega (arith, length-digits k (n / 10), length-digits 1 n)) r
-
 -- two digits of a number below 100, as a number of two bytes
-pub so-word : (n : ℕ) {b : List ℕ} {at : ℕ} {b₁ b₂ : List ℕ} {i j : ℕ} → n < 100 → at + 2 ≤ length b → So b at ((12336 + 256 * n - 2559 * (103 * n / 1024)) % 256 ∷ []) b₁ i → So b₁ i ((12336 + 256 * n - 2559 * (103 * n / 1024)) / 256 ∷ []) b₂ j → So b at (digitsOf 2 n) b₂ j
-so-word n {b} {at} {b₂ = b₂} {j = j} k h s r =
-    subst (λ (t : List ℕ). So b at t b₂ j) (ap₂ (λ (x y : ℕ). x ∷ (y ∷ [])) (tens n k) (ones n k)) (so-on s ((12336 + 256 * n - 2559 * (103 * n / 1024)) / 256 ∷ []) (omega arith) r)
+pub put-word : (n : ℕ) {b : List ℕ} {at : ℕ} {b₁ b₂ : List ℕ} {i j : ℕ} → n < 100 → at + 2 ≤ length b → PutText b at ((12336 + 256 * n - 2559 * (103 * n / 1024)) % 256 ∷ []) b₁ i → PutText b₁ i ((12336 + 256 * n - 2559 * (103 * n / 1024)) / 256 ∷ []) b₂ j → PutText b at (digitsOf 2 n) b₂ j
+put-word n {b} {at} {b₂ = b₂} {j = j} k h s r =
+    subst (λ (t : List ℕ). PutText b at t b₂ j) (ap₂ (λ (x y : ℕ). x ∷ (y ∷ [])) (tens n k) (ones n k)) (put-on s ((12336 + 256 * n - 2559 * (103 * n / 1024)) / 256 ∷ []) (omega arith) r)
   where
     tenth : (n : ℕ) → n < 100 → 103 * n / 1024 ≡ n / 10
     tenth n k = omega arith
@@ -83,7 +78,7 @@ so-word n {b} {at} {b₂ = b₂} {j = j} k h s r =
     ones : (n : ℕ) → n < 100 → (12336 + 256 * n - 2559 * (103 * n / 1024)) / 256 ≡ 48 + n % 10
     ones n k = ap (λ (w : ℕ). w / 256) (is n k) ∙ high (n / 10) (n % 10) (omega arith)
 
--- the last two digits of a number are those of its rest at a division by 100, and the last four those at 10000
+-- the last two digits of a number are those of its remainder by 100, and the last four those of its remainder by 10000
 last-two : (n : ℕ) → digitsOf 2 (n % 100) ≡ digitsOf 2 n
 last-two n = ap₂ (λ (x y : ℕ). (48 + x) ∷ ((48 + y) ∷ [])) (tens n) (ones n)
   where
@@ -109,10 +104,10 @@ last-four n = ap₂ (λ (x y : ℕ). (48 + x) ∷ ((48 + y) ∷ digitsOf 2 (n % 
     ones n = omega arith
 
 -- the digits before the last two, and those
-pub so-pair : (k n : ℕ) {b : List ℕ} {at : ℕ} {b₁ b₂ : List ℕ} {i j : ℕ} → at + suc (suc k) ≤ length b → So b at (digitsOf k (n / 100)) b₁ i → So b₁ i (digitsOf 2 (n % 100)) b₂ j → So b at (digitsOf (suc (suc k)) n) b₂ j
-so-pair k n {b} {at} {b₂ = b₂} {j = j} h s r =
-    subst (λ (t : List ℕ). So b at t b₂ j) (ap (λ (x : List ℕ). digitsOf k (n / 100) ++ x) (last-two n) ∙ parts)
-    (so-on s (digitsOf 2 (n % 100)) (omega (arith, length-digits k (n / 100), length-digits 2 (n % 100))) r)
+pub put-pair : (k n : ℕ) {b : List ℕ} {at : ℕ} {b₁ b₂ : List ℕ} {i j : ℕ} → at + suc (suc k) ≤ length b → PutText b at (digitsOf k (n / 100)) b₁ i → PutText b₁ i (digitsOf 2 (n % 100)) b₂ j → PutText b at (digitsOf (suc (suc k)) n) b₂ j
+put-pair k n {b} {at} {b₂ = b₂} {j = j} h s r =
+    subst (λ (t : List ℕ). PutText b at t b₂ j) (ap (λ (x : List ℕ). digitsOf k (n / 100) ++ x) (last-two n) ∙ parts)
+    (put-on s (digitsOf 2 (n % 100)) (omega (arith, length-digits k (n / 100), length-digits 2 (n % 100))) r)
   where
     hundred : (n : ℕ) → n / 100 ≡ n / 10 / 10
     hundred n = omega arith
@@ -121,8 +116,8 @@ so-pair k n {b} {at} {b₂ = b₂} {j = j} h s r =
     parts = ap (λ (q : ℕ). digitsOf k q ++ digitsOf 2 n) (hundred n) ∙ sym (append-assoc (digitsOf k (n / 10 / 10)) ((48 + n / 10 % 10) ∷ []) ((48 + n % 10) ∷ []))
 
 -- all digits of a number
-pub so-number : (k n : ℕ) {b : List ℕ} {at : ℕ} {b′ : List ℕ} {i m : ℕ} → n < 10 ^ suc k → (1 ≤ k → 10 ^ k ≤ n) → suc k ≤ m → So b at (digitsOf (suc k) n) b′ i → Text (Signs false n) m b at b′ i
-so-number k n l g h s = so-text (Signs.signs (record { less = k; is = refl; below = l; least = g })) (omega (arith, length-digits (suc k) n)) s
+pub put-number : (k n : ℕ) {b : List ℕ} {at : ℕ} {b′ : List ℕ} {i m : ℕ} → n < 10 ^ suc k → (1 ≤ k → 10 ^ k ≤ n) → suc k ≤ m → PutText b at (digitsOf (suc k) n) b′ i → Text (Signs false n) m b at b′ i
+put-number k n l g h s = put-text (Signs.signs (record { less = k; is = refl; below = l; least = g })) (omega (arith, length-digits (suc k) n)) s
 
 tens : (n : ℕ) → n / 10 / 10 / 10 / 10 ≡ n / 10000
 tens n = omega arith
@@ -137,8 +132,8 @@ four-on j n = sym (ap (λ (k : ℕ). digitsOf k n) (sucs j) ∙ parts ∙ ap (λ
     parts = simp append-assoc
 
 -- the digits above the last four, and those
-pub so-eight : {n : ℕ} {b : List ℕ} {at : ℕ} {b₁ b₂ : List ℕ} {i j : ℕ} → 10000 ≤ n → at + 8 ≤ length b → Text (Signs false (n / 10000)) 4 b at b₁ i → So b₁ i (digitsOf 4 (n % 10000)) b₂ j → Text (Signs false n) 20 b at b₂ j
-so-eight {n} h l t s = text-as (text-then t (so-text {P = λ (v : List ℕ). v ≡ digitsOf 4 n} {m = 4} (last-four n) (omega (arith, length-digits 4 (n % 10000))) s) both (omega arith)) (λ u p. p) (omega arith)
+pub put-eight : {n : ℕ} {b : List ℕ} {at : ℕ} {b₁ b₂ : List ℕ} {i j : ℕ} → 10000 ≤ n → at + 8 ≤ length b → Text (Signs false (n / 10000)) 4 b at b₁ i → PutText b₁ i (digitsOf 4 (n % 10000)) b₂ j → Text (Signs false n) 20 b at b₂ j
+put-eight {n} h l t s = text-as (text-then t (put-text {P = λ (v : List ℕ). v ≡ digitsOf 4 n} {m = 4} (last-four n) (omega (arith, length-digits 4 (n % 10000))) s) both (omega arith)) (λ u p. p) (omega arith)
   where
     both : (u v : List ℕ) → Signs false (n / 10000) u → v ≡ digitsOf 4 n → Signs false n (u ++ v)
     both u v (Signs.signs {k} w) e =
@@ -148,20 +143,20 @@ so-eight {n} h l t s = text-as (text-then t (so-text {P = λ (v : List ℕ). v �
 module _ {n : ℕ} {b : List ℕ} {at : ℕ} (fits : n < 2 ^ 64) where
   pub large-done : {b′ : List ℕ} {i : ℕ} → Writes (Signs false n) b at b′ (Written.Done i) → Text (Signs false n) 20 b at b′ i
   large-done (Writes.writes (Signs.signs {k} w) (Puts.done h)) =
-      record { text = digitsOf k n; is = Signs.signs w; short = omega (arith, length-digits k n, width-few w fits); so = record { is = refl; place = refl } }
+      record { text = digitsOf k n; is = Signs.signs w; short = omega (arith, length-digits k n, width-few w fits); put = record { is = refl; offset = refl } }
 
   pub large-never : {b′ : List ℕ} {f : Refusal} → at + 20 ≤ length b → Writes (Signs false n) b at b′ (Written.Refused f) → ⊥
   large-never h (Writes.writes (Signs.signs {k} w) (Puts.short l)) = omega (arith, length-digits k n, width-few w fits)
 
 -- a sign, and the digits
-pub so-minus : {neg : Bool} {n : ℕ} {b : List ℕ} {at : ℕ} {b₁ b₂ : List ℕ} {i j : ℕ} → neg ≡ true → at + 21 ≤ length b → So b at (dash ∷ []) b₁ i → Text (Signs false n) 20 b₁ i b₂ j → Text (Signs neg n) 21 b at b₂ j
-so-minus {neg} {n} e h s t = text-then (so-text {P = λ (v : List ℕ). v ≡ dash ∷ []} {m = 1} refl (omega arith) s) t both (omega arith)
+pub put-minus : {neg : Bool} {n : ℕ} {b : List ℕ} {at : ℕ} {b₁ b₂ : List ℕ} {i j : ℕ} → neg ≡ true → at + 21 ≤ length b → PutText b at (dash ∷ []) b₁ i → Text (Signs false n) 20 b₁ i b₂ j → Text (Signs neg n) 21 b at b₂ j
+put-minus {neg} {n} e h s t = text-then (put-text {P = λ (v : List ℕ). v ≡ dash ∷ []} {m = 1} refl (omega arith) s) t both (omega arith)
   where
     both : (u v : List ℕ) → u ≡ dash ∷ [] → Signs false n v → Signs neg n (u ++ v)
     both u v p (Signs.signs {k} w) = subst (λ (x : List ℕ). Signs neg n (x ++ digitsOf k n)) (sym p) (subst (λ (g : Bool). Signs g n (dash ∷ digitsOf k n)) (sym e) (Signs.signs w))
 
-pub so-plus : {neg : Bool} {n : ℕ} {b : List ℕ} {at : ℕ} {b′ : List ℕ} {i : ℕ} → neg ≡ false → Text (Signs false n) 20 b at b′ i → Text (Signs neg n) 21 b at b′ i
-so-plus {neg} {n} e t = text-as t (λ u. subst (λ (g : Bool). Signs g n u) (sym e)) (omega arith)
+pub put-plus : {neg : Bool} {n : ℕ} {b : List ℕ} {at : ℕ} {b′ : List ℕ} {i : ℕ} → neg ≡ false → Text (Signs false n) 20 b at b′ i → Text (Signs neg n) 21 b at b′ i
+put-plus {neg} {n} e t = text-as t (λ u. subst (λ (g : Bool). Signs g n u) (sym e)) (omega arith)
 
 -- ---- a column: a number and the byte after it
 
@@ -172,20 +167,20 @@ abbrev pub Column : ℤ → ℕ → List ℕ → ℕ → List ℕ → ℕ → Ty
 Column x after = Text (Cell x after) 22
 
 closed : {x : ℤ} {after m : ℕ} {P : List ℕ → Type 0} {b : List ℕ} {at : ℕ} {b₁ b₂ : List ℕ} {i j : ℕ} → ((u : List ℕ) → P u → WholeDecimal u x) → m ≤ 21 → at + 22 ≤ length b
-    → Text P m b at b₁ i → So b₁ i (after ∷ []) b₂ j → Column x after b at b₂ j
-closed {x} {after} {P = P} f k h t s = text-as (text-then t (so-text {P = λ (v : List ℕ). v ≡ after ∷ []} {m = 1} refl (omega arith) s) both (omega arith)) (λ u p. p) (omega arith)
+    → Text P m b at b₁ i → PutText b₁ i (after ∷ []) b₂ j → Column x after b at b₂ j
+closed {x} {after} {P = P} f k h t s = text-as (text-then t (put-text {P = λ (v : List ℕ). v ≡ after ∷ []} {m = 1} refl (omega arith) s) both (omega arith)) (λ u p. p) (omega arith)
   where
     both : (u v : List ℕ) → P u → v ≡ after ∷ [] → Cell x after (u ++ v)
     both u v p e = subst (λ (y : List ℕ). Cell x after (u ++ y)) (sym e) (cell (f u p))
 
-pub count-column : {n after : ℕ} {b : List ℕ} {at : ℕ} {b₁ b₂ : List ℕ} {i j : ℕ} → at + 22 ≤ length b → Text (Signs false n) 20 b at b₁ i → So b₁ i (after ∷ []) b₂ j → Column (pos n) after b at b₂ j
+pub count-column : {n after : ℕ} {b : List ℕ} {at : ℕ} {b₁ b₂ : List ℕ} {i j : ℕ} → at + 22 ≤ length b → Text (Signs false n) 20 b at b₁ i → PutText b₁ i (after ∷ []) b₂ j → Column (pos n) after b at b₂ j
 count-column {n} = closed by (omega arith)
   where
     by : (u : List ℕ) → Signs false n u → WholeDecimal u (pos n)
     by u (Signs.signs w) = WholeDecimal.not-negative (decimal-of w)
 
 pub whole-column : {x : ℤ} {neg : Bool} {n after : ℕ} {b : List ℕ} {at : ℕ} {b₁ b₂ : List ℕ} {i j : ℕ} → neg ≡ isNegative x → n ≡ natAbs x → at + 22 ≤ length b
-    → Text (Signs neg n) 21 b at b₁ i → So b₁ i (after ∷ []) b₂ j → Column x after b at b₂ j
+    → Text (Signs neg n) 21 b at b₁ i → PutText b₁ i (after ∷ []) b₂ j → Column x after b at b₂ j
 whole-column {x} {neg} {n} e h = closed (λ u s. by u (subst (λ (i : ℕ). Signs (isNegative x) i u) h (subst (λ (g : Bool). Signs g n u) e s))) (omega arith)
   where
     by : (u : List ℕ) → Signs (isNegative x) (natAbs x) u → WholeDecimal u x
@@ -216,17 +211,17 @@ cell-before {x} {xs} h c r = text-then c r both h
 
 -- ---- a line of output
 
-abbrev pub LineOf : Line → List ℕ → ℕ → List ℕ → ℕ → Type 0
-LineOf l = Text (Ended l) 132
+abbrev pub LinePut : Line → List ℕ → ℕ → List ℕ → ℕ → Type 0
+LinePut l = Text (Ended l) longestLine
 
-pub row-line : {r : Row} {b : List ℕ} {at : ℕ} {b′ : List ℕ} {i : ℕ} → CellsOf (rowColumns r) 132 b at b′ i → LineOf (Line′.Row r) b at b′ i
-row-line {r} t = text-as t by (omega arith)
+pub numbers-line : {r : LineNumbers} {b : List ℕ} {at : ℕ} {b′ : List ℕ} {i : ℕ} → CellsOf (numberColumns r) longestLine b at b′ i → LinePut (Line′.Numbers r) b at b′ i
+numbers-line {r} t = text-as t by (omega arith)
   where
-    by : (u : List ℕ) → Cells (rowColumns r) u → Ended (Line′.Row r) u
-    by u (cells c) = ended (of-row c)
+    by : (u : List ℕ) → Cells (numberColumns r) u → Ended (Line′.Numbers r) u
+    by u (cells c) = ended (of-numbers c)
 
-pub refusal-line : {f : Refusal} {b : List ℕ} {at : ℕ} {b₁ b₂ b₃ : List ℕ} {i j k : ℕ} → at + 68 ≤ length b → So b at (mark ∷ []) b₁ i → So b₁ i (tab ∷ []) b₂ j → CellsOf (refusalColumns f) 66 b₂ j b₃ k → LineOf (Line′.Refusal f) b at b₃ k
-refusal-line {f} h s t r = text-as (text-then (so-text {P = λ (v : List ℕ). v ≡ mark ∷ (tab ∷ [])} {m = 2} refl (omega arith) (so-on s (tab ∷ []) (omega arith) t)) r both (omega arith)) (λ u p. p) (omega arith)
+pub refusal-line : {f : Refusal} {b : List ℕ} {at : ℕ} {b₁ b₂ b₃ : List ℕ} {i j k : ℕ} → at + 68 ≤ length b → PutText b at (mark ∷ []) b₁ i → PutText b₁ i (tab ∷ []) b₂ j → CellsOf (refusalColumns f) 66 b₂ j b₃ k → LinePut (Line′.Refusal f) b at b₃ k
+refusal-line {f} h s t r = text-as (text-then (put-text {P = λ (v : List ℕ). v ≡ mark ∷ (tab ∷ [])} {m = 2} refl (omega arith) (put-on s (tab ∷ []) (omega arith) t)) r both (omega arith)) (λ u p. p) (omega arith)
   where
     both : (u v : List ℕ) → u ≡ mark ∷ (tab ∷ []) → Cells (refusalColumns f) v → Ended (Line′.Refusal f) (u ++ v)
     both u v e (cells c) = subst (λ (y : List ℕ). Ended (Line′.Refusal f) (y ++ v)) (sym e) (ended (of-refusal c))
@@ -236,22 +231,22 @@ refusal-line {f} h s t r = text-as (text-then (so-text {P = λ (v : List ℕ). v
 pub column-as : {x y : ℤ} {after : ℕ} {b : List ℕ} {at : ℕ} {b′ : List ℕ} {i : ℕ} → x ≡ y → Column x after b at b′ i → Column y after b at b′ i
 column-as {after = after} {b} {at} {b′} {i} e = subst (λ (z : ℤ). Column z after b at b′ i) e
 
-pub line-as : {l k : Line} {b : List ℕ} {at : ℕ} {b′ : List ℕ} {i : ℕ} → l ≡ k → LineOf k b at b′ i → LineOf l b at b′ i
-line-as {b = b} {at} {b′} {i} e = subst (λ (m : Line). LineOf m b at b′ i) (sym e)
+pub line-as : {l k : Line} {b : List ℕ} {at : ℕ} {b′ : List ℕ} {i : ℕ} → l ≡ k → LinePut k b at b′ i → LinePut l b at b′ i
+line-as {b = b} {at} {b′} {i} e = subst (λ (m : Line). LinePut m b at b′ i) (sym e)
 
 -- the columns of a day, whose first two are signed
-pub row-columns : {r : Row} {x y : ℤ} {b : List ℕ} {at : ℕ} {b₁ b₂ b₃ : List ℕ} {i₁ i₂ i₃ : ℕ} → at + 132 ≤ length b → length b ≤ length b₁ → x ≡ r .jdn → y ≡ r .year
-    → Column x tab b at b₁ i₁ → Column y tab b₁ i₁ b₂ i₂ → CellsOf (pos (r .ordinal) ∷ pos (r .month) ∷ pos (r .day) ∷ pos (r .weekday) ∷ []) 88 b₂ i₂ b₃ i₃ → LineOf (Line′.Row r) b at b₃ i₃
-row-columns {r} h l e f c₁ c₂ t = row-line {r = r} (cell-before {m = 110} (omega arith) (column-as e c₁) (cell-before {m = 88} (omega (arith, ends c₁)) (column-as f c₂) t))
+pub numbers-columns : {r : LineNumbers} {x y : ℤ} {b : List ℕ} {at : ℕ} {b₁ b₂ b₃ : List ℕ} {i₁ i₂ i₃ : ℕ} → at + longestLine ≤ length b → length b ≤ length b₁ → x ≡ r .jdn → y ≡ r .year
+    → Column x tab b at b₁ i₁ → Column y tab b₁ i₁ b₂ i₂ → CellsOf (pos (r .ordinal) ∷ pos (r .month) ∷ pos (r .day) ∷ pos (r .weekday) ∷ []) 88 b₂ i₂ b₃ i₃ → LinePut (Line′.Numbers r) b at b₃ i₃
+numbers-columns {r} h l e f c₁ c₂ t = numbers-line {r = r} (cell-before {m = 110} (omega arith) (column-as e c₁) (cell-before {m = 88} (omega (arith, ends c₁)) (column-as f c₂) t))
 
--- ---- a text made apart, at the front of a buffer of its own
+-- ---- a text made at the front of a buffer of its own
 
 module _ {P : List ℕ → Type 0} {m : ℕ} {z z′ : List ℕ} {n : ℕ} (t : Text P m z 0 z′ n) where
   apart-long : n ≡ length (t .text)
-  apart-long = omega (arith, t .so .place)
+  apart-long = omega (arith, t .put .offset)
 
   pub apart-is : take n z′ ≡ t .text
-  apart-is = ap (take n) (t .so .is) ∙ take-at (t .text) (drop (0 + length (t .text)) z) n (omega (arith, t .so .place))
+  apart-is = ap (take n) (t .put .is) ∙ take-at (t .text) (drop (0 + length (t .text)) z) n (omega (arith, t .put .offset))
 
   pub apart-part : n ≡ length (take n z′)
   apart-part = apart-long ∙ sym (ap length apart-is)
@@ -270,10 +265,10 @@ module _ {P : List ℕ → Type 0} {m : ℕ} {z z′ : List ℕ} {n : ℕ} (t : 
       by (no-room h) = left-alone (t .text) (t .is) apart-long h g
 
 pub text-wrote : {P : List ℕ → Type 0} {m : ℕ} {b : List ℕ} {at : ℕ} {b′ : List ℕ} {i : ℕ} → at + m ≤ length b → Text P m b at b′ i → Writes P b at b′ (Written.Done i)
-text-wrote h t = wrote (t .is) (omega (arith, t .short)) (t .so)
+text-wrote h t = wrote (t .is) (omega (arith, t .short)) (t .put)
 
 -- ---- what the public writers promise
 
 -- a line with its length
-pub lined : {l : Line} {b : List ℕ} {at : ℕ} {b′ : List ℕ} {i : ℕ} → LineOf l b at b′ i → Text (LineOut l) 132 b at b′ i
-lined t = record { text = t .text; is = record { is = t .is; short = t .short }; short = t .short; so = t .so }
+pub lined : {l : Line} {b : List ℕ} {at : ℕ} {b′ : List ℕ} {i : ℕ} → LinePut l b at b′ i → Text (LineOut l) longestLine b at b′ i
+lined t = record { text = t .text; is = record { is = t .is; short = t .short }; short = t .short; put = t .put }

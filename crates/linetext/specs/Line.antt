@@ -6,7 +6,7 @@ use lib.ListN.{length}
 use lib.IntN.{ℤ, pos}
 use Rattle.refusals.specs.declared.Refusal.{Refusal}
 use Rattle.writer.specs.Promise.{WholeDecimal}
-use Rattle.linetext.specs.declared.Row.{Row}
+use Rattle.linetext.specs.declared.LineNumbers.{LineNumbers}
 use Rattle.linetext.specs.declared.Line.{Line}
 use Rattle.linetext.specs.declared.Line.the-variants as Line′
 
@@ -20,26 +20,31 @@ tab = 9
 abbrev pub mark : ℕ
 mark = 33
 
--- numbers parted by tabs
+-- the bytes of the longest line: six columns of at most 20 digits, a sign and the byte after them
+abbrev pub longestLine : ℕ
+longestLine = 132
+
+-- numbers separated by tabs
 pub data Columns : List ℤ → List ℕ → Type 0 where
   one : {x : ℤ} {t : List ℕ} → WholeDecimal t x → Columns (x ∷ []) t
   more : {x : ℤ} {xs : List ℤ} {t u : List ℕ} → WholeDecimal t x → Columns xs u → Columns (x ∷ xs) (t ++ (tab ∷ u))
 
-abbrev pub rowColumns : Row → List ℤ
-rowColumns r = r .jdn ∷ r .year ∷ pos (r .ordinal) ∷ pos (r .month) ∷ pos (r .day) ∷ pos (r .weekday) ∷ []
+-- the columns of a day, and of a refusal
+abbrev pub numberColumns : LineNumbers → List ℤ
+numberColumns r = r .jdn ∷ r .year ∷ pos (r .ordinal) ∷ pos (r .month) ∷ pos (r .day) ∷ pos (r .weekday) ∷ []
 
 abbrev pub refusalColumns : Refusal → List ℤ
 refusalColumns f = pos (f .number) ∷ pos (f .place) ∷ f .value ∷ []
 
 pub data LineText : Line → List ℕ → Type 0 where
-  of-row : {r : Row} {t : List ℕ} → Columns (rowColumns r) t → LineText (Line′.Row r) t
+  of-numbers : {r : LineNumbers} {t : List ℕ} → Columns (numberColumns r) t → LineText (Line′.Numbers r) t
   of-refusal : {f : Refusal} {t : List ℕ} → Columns (refusalColumns f) t → LineText (Line′.Refusal f) (mark ∷ (tab ∷ t))
 
 -- with the newline after it
 pub data Ended (l : Line) : List ℕ → Type 0 where
   ended : {t : List ℕ} → LineText l t → Ended l (t ++ (newline ∷ []))
 
--- which has at most 132 bytes: six columns of at most 20 digits, a sign and the byte after them
+-- and with its length
 pub record LineOut (l : Line) (t : List ℕ) : Type 0 where
   pub is : Ended l t
-  pub short : length t ≤ 132
+  pub short : length t ≤ longestLine

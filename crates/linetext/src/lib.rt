@@ -1,5 +1,5 @@
 // A line of the listing: the numbers of a day or of a refusal in columns, written into a lent buffer. Each public call writes its text and
-// tells the place after it, or says that it has no room and leaves the buffer as it was.
+// tells the offset after it, or says that it has no room and leaves the buffer as it was.
 
 ghost use mathlib.Core.Path.{_≡_};
 ghost use mathlib.Core.List.{[], _∷_};
@@ -7,18 +7,21 @@ ghost use mathlib.Core.Bool.{false};
 ghost use Prim.Native.Nat.{_+_, _<_, _≤_};
 ghost use lib.ListN.{length};
 ghost use lib.IntN.{pos};
-ghost use Rattle.writer.specs.Buffers.{So};
+ghost use Rattle.writer.specs.Laws.{PutText};
 ghost use Rattle.writer.specs.Promise.{digitsOf, Writes, Signs};
-ghost use Rattle.linetext.specs.declared.Line.the-variants.{Row as OfRow, Refusal as OfRefusal};
-ghost use Rattle.linetext.specs.Line.{LineOut};
-ghost use Rattle.linetext.specs.Laws.{Text, Column, CellsOf, LineOf};
+ghost use Rattle.linetext.specs.declared.Line.the-variants.{Numbers as OfNumbers, Refusal as OfRefusal};
+ghost use Rattle.linetext.specs.Line.{longestLine, LineOut};
+ghost use Rattle.linetext.specs.Laws.{Text, Column, CellsOf, LinePut};
 use refusals::Refusal;
 use writer::Written;
 use writer::buffer;
 use writer::buffer::Copied;
 
-// The columns of a day, whatever numbers they are: that they are those of one day is said where they come from.
-pub struct Row {
+// The longest line of output: six columns of at most 20 digits, a sign and the byte after them.
+pub const LONGEST_LINE: usize = 132;
+
+// The numbers in the line of a day, whatever they are: that they are those of one day is said where they come from.
+pub struct LineNumbers {
     pub jdn: i64,
     pub year: i64,
     pub ordinal: u64,
@@ -29,15 +32,15 @@ pub struct Row {
 
 // What stands in a line.
 pub enum Line {
-    Row(Row),
+    Numbers(LineNumbers),
     Refusal(Refusal),
 }
 
-// ---- numbers in columns. Each function writes from `at` on, and answers the place after what it wrote.
+// ---- numbers in columns. Each function writes from `at` on, and answers the offset after what it wrote.
 
 fn put_byte(out: &mut [u8], at: usize, b: u8) -> usize
     requires { ⌜ at < length (now out) ⌝ }
-    ensures { λ r. ⌜ So (now (out .entry)) at (b ∷ []) (now (out .exit)) r ⌝ }
+    ensures { λ r. ⌜ PutText (now (out .entry)) at (b ∷ []) (now (out .exit)) r ⌝ }
 {
     out[at] = b;
     at + 1
@@ -46,7 +49,7 @@ fn put_byte(out: &mut [u8], at: usize, b: u8) -> usize
 // The last digit of n.
 fn put_digit(out: &mut [u8], at: usize, n: u64) -> usize
     requires { ⌜ at < length (now out) ⌝ }
-    ensures { λ r. ⌜ So (now (out .entry)) at (digitsOf 1 n) (now (out .exit)) r ⌝ }
+    ensures { λ r. ⌜ PutText (now (out .entry)) at (digitsOf 1 n) (now (out .exit)) r ⌝ }
 {
     put_byte(out, at, (48 + n % 10) as u8)
 }
@@ -54,7 +57,7 @@ fn put_digit(out: &mut [u8], at: usize, n: u64) -> usize
 // Two digits as a number of two bytes, which the compiler stores at once.
 fn put_two(out: &mut [u8], at: usize, n: u64) -> usize
     requires { ⌜ (at + 2 ≤ length (now out)) × (n < 100) ⌝ }
-    ensures { λ r. ⌜ So (now (out .entry)) at (digitsOf 2 n) (now (out .exit)) r ⌝ }
+    ensures { λ r. ⌜ PutText (now (out .entry)) at (digitsOf 2 n) (now (out .exit)) r ⌝ }
 {
     let tens = 103 * n / 1024;
     let word = 12_336 + 256 * n - 2_559 * tens;
@@ -64,7 +67,7 @@ fn put_two(out: &mut [u8], at: usize, n: u64) -> usize
 
 fn put_three(out: &mut [u8], at: usize, n: u64) -> usize
     requires { ⌜ at + 3 ≤ length (now out) ⌝ }
-    ensures { λ r. ⌜ So (now (out .entry)) at (digitsOf 3 n) (now (out .exit)) r ⌝ }
+    ensures { λ r. ⌜ PutText (now (out .entry)) at (digitsOf 3 n) (now (out .exit)) r ⌝ }
 {
     let next = put_digit(out, at, n / 100);
     put_two(out, next, n % 100)
@@ -72,7 +75,7 @@ fn put_three(out: &mut [u8], at: usize, n: u64) -> usize
 
 fn put_four(out: &mut [u8], at: usize, n: u64) -> usize
     requires { ⌜ (at + 4 ≤ length (now out)) × (n < 10000) ⌝ }
-    ensures { λ r. ⌜ So (now (out .entry)) at (digitsOf 4 n) (now (out .exit)) r ⌝ }
+    ensures { λ r. ⌜ PutText (now (out .entry)) at (digitsOf 4 n) (now (out .exit)) r ⌝ }
 {
     let next = put_two(out, at, n / 100);
     put_two(out, next, n % 100)
@@ -95,6 +98,7 @@ fn put_small(out: &mut [u8], at: usize, n: u64) -> usize
     put_digit(out, at, n)
 }
 
+// A number of any size, whose digits `writer` counts first.
 fn put_large(out: &mut [u8], at: usize, n: u64) -> usize
     requires { ⌜ at + 20 ≤ length (now out) ⌝ }
     ensures { λ r. ⌜ Text (Signs false n) 20 (now (out .entry)) at (now (out .exit)) r ⌝ }
@@ -137,7 +141,8 @@ fn put_few(out: &mut [u8], at: usize, n: u64) -> usize
     put_natural(out, at, n)
 }
 
-fn put_signed(out: &mut [u8], at: usize, negative: bool, n: u64) -> usize
+// A magnitude, with a `-` before it where the number is negative.
+fn put_with_sign(out: &mut [u8], at: usize, negative: bool, n: u64) -> usize
     requires { ⌜ at + 21 ≤ length (now out) ⌝ }
     ensures { λ r. ⌜ Text (Signs negative n) 21 (now (out .entry)) at (now (out .exit)) r ⌝ }
 {
@@ -148,7 +153,7 @@ fn put_signed(out: &mut [u8], at: usize, negative: bool, n: u64) -> usize
     put_natural(out, at, n)
 }
 
-// A number, and the byte after it.
+// A number without a sign, and the byte after it.
 fn put_count(out: &mut [u8], at: usize, n: u64, after: u8) -> usize
     requires { ⌜ at + 22 ≤ length (now out) ⌝ }
     ensures { λ r. ⌜ Column (pos n) after (now (out .entry)) at (now (out .exit)) r ⌝ }
@@ -157,13 +162,14 @@ fn put_count(out: &mut [u8], at: usize, n: u64, after: u8) -> usize
     put_byte(out, next, after)
 }
 
-fn put_whole(out: &mut [u8], at: usize, x: i64, after: u8) -> usize
+// A number with its sign, and the byte after it.
+fn put_integer(out: &mut [u8], at: usize, x: i64, after: u8) -> usize
     requires { ⌜ at + 22 ≤ length (now out) ⌝ }
     ensures { λ r. ⌜ Column x after (now (out .entry)) at (now (out .exit)) r ⌝ }
 {
     let negative = whole::is_negative(x);
     let n = whole::magnitude(x);
-    let next = put_signed(out, at, negative, n);
+    let next = put_with_sign(out, at, negative, n);
     put_byte(out, next, after)
 }
 
@@ -173,20 +179,27 @@ fn put_year(out: &mut [u8], at: usize, x: i64, after: u8) -> usize
     ensures { λ r. ⌜ Column x after (now (out .entry)) at (now (out .exit)) r ⌝ }
 {
     if whole::is_negative(x) {
-        return put_whole(out, at, x, after);
+        return put_integer(out, at, x, after);
     }
     let n = whole::magnitude(x);
     if n < 10_000 {
         let next = put_small(out, at, n);
         return put_byte(out, next, after);
     }
-    put_whole(out, at, x, after)
+    put_integer(out, at, x, after)
 }
 
 // ---- a line of output, with its newline
 
 // The last four columns of a day.
-fn put_place(out: &mut [u8], at: usize, ordinal: u64, month: u64, day: u64, weekday: u64) -> usize
+fn put_last_four(
+    out: &mut [u8],
+    at: usize,
+    ordinal: u64,
+    month: u64,
+    day: u64,
+    weekday: u64,
+) -> usize
     requires { ⌜ at + 88 ≤ length (now out) ⌝ }
     ensures { λ r. ⌜ CellsOf (pos ordinal ∷ pos month ∷ pos day ∷ pos weekday ∷ []) 88 (now (out .entry)) at (now (out .exit)) r ⌝ }
 {
@@ -196,43 +209,52 @@ fn put_place(out: &mut [u8], at: usize, ordinal: u64, month: u64, day: u64, week
     put_count(out, fourth, weekday, b'\n')
 }
 
-fn put_row(out: &mut [u8], at: usize, row: Row) -> usize
-    requires { ⌜ at + 132 ≤ length (now out) ⌝ }
-    ensures { λ r. ⌜ LineOf (OfRow row) (now (out .entry)) at (now (out .exit)) r ⌝ }
+// The line of a day.
+fn put_numbers(out: &mut [u8], at: usize, numbers: LineNumbers) -> usize
+    requires { ⌜ at + longestLine ≤ length (now out) ⌝ }
+    ensures { λ r. ⌜ LinePut (OfNumbers numbers) (now (out .entry)) at (now (out .exit)) r ⌝ }
 {
-    let second = put_whole(out, at, row.jdn, b'\t');
-    let third = put_year(out, second, row.year, b'\t');
-    put_place(out, third, row.ordinal, row.month, row.day, row.weekday)
+    let second = put_integer(out, at, numbers.jdn, b'\t');
+    let third = put_year(out, second, numbers.year, b'\t');
+    put_last_four(
+        out,
+        third,
+        numbers.ordinal,
+        numbers.month,
+        numbers.day,
+        numbers.weekday,
+    )
 }
 
+// The line of a refusal, with its mark.
 fn put_refusal(out: &mut [u8], at: usize, why: Refusal) -> usize
-    requires { ⌜ at + 132 ≤ length (now out) ⌝ }
-    ensures { λ r. ⌜ LineOf (OfRefusal why) (now (out .entry)) at (now (out .exit)) r ⌝ }
+    requires { ⌜ at + longestLine ≤ length (now out) ⌝ }
+    ensures { λ r. ⌜ LinePut (OfRefusal why) (now (out .entry)) at (now (out .exit)) r ⌝ }
 {
     let mark = put_byte(out, at, b'!');
     let number = put_byte(out, mark, b'\t');
     let place = put_count(out, number, why.number as u64, b'\t');
     let value = put_count(out, place, why.place as u64, b'\t');
-    put_whole(out, value, why.value, b'\n')
+    put_integer(out, value, why.value, b'\n')
 }
 
 fn put_either(out: &mut [u8], at: usize, line: Line) -> usize
-    requires { ⌜ at + 132 ≤ length (now out) ⌝ }
-    ensures { λ r. ⌜ LineOf line (now (out .entry)) at (now (out .exit)) r ⌝ }
+    requires { ⌜ at + longestLine ≤ length (now out) ⌝ }
+    ensures { λ r. ⌜ LinePut line (now (out .entry)) at (now (out .exit)) r ⌝ }
 {
     match line {
-        Line::Row(row) => put_row(out, at, row),
+        Line::Numbers(numbers) => put_numbers(out, at, numbers),
         Line::Refusal(why) => put_refusal(out, at, why),
     }
 }
 
 // ---- a line with or without room for it
 
-// Where room is not sure, the text is made apart first, so that a buffer too short for it stays as it was.
+// Where there may be no room, the text is made in a buffer of its own first, so that a buffer too short for it stays as it was.
 fn put_apart(out: &mut [u8], at: usize, line: Line) -> Written
     ensures { λ r. ⌜ Writes (LineOut line) (now (out .entry)) at (now (out .exit)) r ⌝ }
 {
-    let mut apart = [0u8; 132];
+    let mut apart = [0u8; LONGEST_LINE];
     let size = put_either(&mut apart, 0, line);
     match buffer::copy_text(out, at, &apart[..size]) {
         Copied::To(end) => Written::Done(end),
@@ -244,7 +266,7 @@ fn put_apart(out: &mut [u8], at: usize, line: Line) -> Written
 pub fn put_line(out: &mut [u8], at: usize, line: Line) -> Written
     ensures { λ r. ⌜ Writes (LineOut line) (now (out .entry)) at (now (out .exit)) r ⌝ }
 {
-    if buffer::has_room(out.len(), at, 132) {
+    if buffer::has_room(out.len(), at, LONGEST_LINE) {
         let end = put_either(out, at, line);
         return Written::Done(end);
     }

@@ -3,7 +3,9 @@
 
 ghost use Prim.Native.Nat.{_≤_};
 ghost use lib.ListN.{length};
+use filter::BLOCK_SIZE;
 use filter::State;
+use listrun::LONGEST_ENTRY;
 
 fn read_some(block: &mut [u8], room: usize) -> isize
     requires { ⌜ room ≤ length (now block) ⌝ }
@@ -13,9 +15,9 @@ fn read_some(block: &mut [u8], room: usize) -> isize
 
 fn turn(
     state: State,
-    block: &mut [u8; 65536],
-    line: &mut [u8; 512],
-    out: &mut [u8; 65536],
+    block: &mut [u8; BLOCK_SIZE],
+    line: &mut [u8; LONGEST_ENTRY],
+    out: &mut [u8; BLOCK_SIZE],
 ) -> State {
     let written = io::write_all(filter::output(state), filter::front(out, state.used));
     let got = read_some(block, filter::room(state, written));
@@ -24,7 +26,7 @@ fn turn(
 
 fn main() {
     let mut block = io::large_buffer();
-    let mut line = [0u8; 512];
+    let mut line = [0u8; LONGEST_ENTRY];
     let mut out = io::large_buffer();
     let mut state = listrun::start(&mut out);
     // The number of turns only bounds the loop: no input is so long.

@@ -1,7 +1,8 @@
 -- The listing. A reader's files are `Lines`, which says what the lines of an input are and what is written for each, and `Theorems`, which says that the
--- program writes just that however the input comes. `One` shows that each promise allows one result.
--- `Blocks` has how blocks of input are cut into lines; the promises of functions cite it.
+-- program writes just that however the input comes. `Promise` says what a call does with a block and with the line that is held. `One` shows that each
+-- promise allows one result, and `Laws` has what the proofs need.
 pub mod Lines
-pub mod Blocks
+pub mod Promise
+pub mod Laws
 pub mod One
 pub mod Theorems

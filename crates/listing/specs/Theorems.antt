@@ -1,7 +1,7 @@
 -- THE THEOREMS ON THE LISTING.
 -- What `list_block` writes for the bytes that it takes is what the definition says of the lines that end there, and what is held after it is the
 -- unfinished line (`block-means`). However an input is cut into reads, and wherever the output runs out of room, what is written from the header to the
--- last line is the listing of the input (`session-lists`); so two ways of cutting it write the same (`any-reads`).
+-- last line is the listing of the input (`calls-list`); so two ways of cutting it write the same (`any-reads`).
 -- That an input has one listing, and that each promise allows one result, is in `One`.
 -- Assumes nothing.
 use Prim.Native.Nat.{ℕ, _+_, _-_, _≤_, _<_}
@@ -12,16 +12,15 @@ use lib.ListN.{length, take, drop, length-append}
 use lib.Seq.{take-at, drop-drop, drop-at, length-take-le, drop-length}
 use Rattle.calendar.specs.Rows.{refuses}
 use Rattle.writer.specs.Promise.{put}
-use Rattle.writer.specs.Buffers.{put-none, put-then, length-put}
+use Rattle.writer.specs.Laws.{put-none, put-then, length-put}
 use Rattle.bytesearch.specs.Promise.{Without}
 use Rattle.bytesearch.specs.Laws.{without-both}
-use Rattle.entry.specs.Entry.{LineAnswer}
-use Rattle.linetext.specs.Line.{newline}
+use Rattle.entry.specs.Entry.{LineAnswer, longestEntry}
+use Rattle.linetext.specs.Line.{newline, longestLine}
 use Rattle.columns.specs.Columns.{header}
-use Rattle.heldline.specs.Held.{Fills, HeldAnswer, HeldLine, LastLine}
-use Rattle.listing.specs.Lines.{Lines, Listed, listed, AllListed, Listing, listing}
-use Rattle.listing.specs.Blocks.{Stand, stand, Turn, Lists}
 use Rattle.listing.specs.One.{listing-one}
+use Rattle.listing.specs.Promise.{AddsToLine, HeldAnswer, HeldLine, LastLine, BlockState, blockState, NextLine, Lists}
+use Rattle.listing.specs.Lines.{Lines, Listed, listed, AllListed, Listing, listing}
 
 -- ---- the lines that end in the bytes s, where p was unfinished before them, and what is unfinished after them
 
@@ -56,20 +55,20 @@ cuts-lines {p} {ms = ms} w (Cuts.line {q} {s} {ls} v c) m = subst (λ (x : List 
 -- ---- the line buffer l with its count n stands for the unfinished line p
 
 pub data Holds (l : List ℕ) (n : ℕ) (p : List ℕ) : Type 0 where
-  fits : length p ≤ 512 → n ≡ length p → take n l ≡ p → Holds l n p
-  over : 512 < length p → 512 < n → Holds l n p
+  fits : length p ≤ longestEntry → n ≡ length p → take n l ≡ p → Holds l n p
+  over : longestEntry < length p → longestEntry < n → Holds l n p
 
-holds-more : {l : List ℕ} {n : ℕ} {p q l′ : List ℕ} {n′ : ℕ} → length l ≡ 512 → Holds l n p → Fills l n q l′ n′ → (length l′ ≡ 512) × Holds l′ n′ (p ++ q)
-holds-more {l} {n} {p} {q} k (Holds.fits h e t) (Fills.fits f) = (
+holds-more : {l : List ℕ} {n : ℕ} {p q l′ : List ℕ} {n′ : ℕ} → length l ≡ longestEntry → Holds l n p → AddsToLine l n q l′ n′ → (length l′ ≡ longestEntry) × Holds l′ n′ (p ++ q)
+holds-more {l} {n} {p} {q} k (Holds.fits h e t) (AddsToLine.fits f) = (
   length-put l n q (omega arith) ∙ k,
   Holds.fits (omega (arith, length-append p q)) (omega (arith, length-append p q))
       (ap (take (n + length q)) (sym (append-assoc (take n l) q (drop (n + length q) l)))
       ∙ take-at (take n l ++ q) (drop (n + length q) l) (n + length q) (length-append (take n l) q ∙ ap (λ (i : ℕ). i + length q) (length-take-le n l (omega arith)))
       ∙ ap (λ (x : List ℕ). x ++ q) t),
 )
-holds-more {p = p} {q} k (Holds.fits h e t) (Fills.over f) = (k, Holds.over (omega (arith, length-append p q)) (omega arith))
-holds-more k (Holds.over h i) (Fills.fits f) = absurd (omega arith)
-holds-more {p = p} {q} k (Holds.over h i) (Fills.over f) = (k, Holds.over (omega (arith, length-append p q)) (omega arith))
+holds-more {p = p} {q} k (Holds.fits h e t) (AddsToLine.over f) = (k, Holds.over (omega (arith, length-append p q)) (omega arith))
+holds-more k (Holds.over h i) (AddsToLine.fits f) = absurd (omega arith)
+holds-more {p = p} {q} k (Holds.over h i) (AddsToLine.over f) = (k, Holds.over (omega (arith, length-append p q)) (omega arith))
 
 held-listed : {l : List ℕ} {n : ℕ} {p t : List ℕ} → Holds l n p → HeldLine l n t → Listed p t
 held-listed {l} {n} (Holds.fits h e k) (HeldLine.held-line (HeldAnswer.short {a} i q) x) = listed (subst (λ (s : List ℕ). LineAnswer s a) k q) (x .is)
@@ -80,9 +79,9 @@ held-listed (Holds.over h k) (HeldLine.held-line (HeldAnswer.long i) x) = listed
 pub holds-none : (l : List ℕ) → Holds l 0 []
 holds-none l = Holds.fits (omega arith) refl refl
 
--- ---- what a run over a block comes to: c are the bytes that it took
+-- ---- what a call of `list_block` comes to: `taken` are the bytes that it took
 
-pub record Means (b : List ℕ) (s e : Stand) (p : List ℕ) : Type 0 where
+pub record Means (b : List ℕ) (s e : BlockState) (p : List ℕ) : Type 0 where
   pub taken : List ℕ
   pub lines : List (List ℕ)
   pub unfinished : List ℕ
@@ -93,10 +92,10 @@ pub record Means (b : List ℕ) (s e : Stand) (p : List ℕ) : Type 0 where
   pub out-is : e .out ≡ put (s .out) (s .used) text
   pub used-is : e .used ≡ s .used + length text
   pub room : s .used + length text ≤ length (s .out)
-  pub buffer : length (e .line) ≡ 512
+  pub buffer : length (e .line) ≡ longestEntry
   pub holds : Holds (e .line) (e .held) unfinished
 
-means-none : {b p : List ℕ} {s : Stand} → length (s .line) ≡ 512 → s .used ≤ length (s .out) → Holds (s .line) (s .held) p → Means b s s p
+means-none : {b p : List ℕ} {s : BlockState} → length (s .line) ≡ longestEntry → s .used ≤ length (s .out) → Holds (s .line) (s .held) p → Means b s s p
 means-none {b} {p} {s} k i h =
     record {
       taken = [];
@@ -113,8 +112,8 @@ means-none {b} {p} {s} k i h =
       holds = h;
     }
 
-means-turn : {b p : List ℕ} {s t : Stand} → s .used + 132 ≤ length (s .out) → length (s .line) ≡ 512 → Holds (s .line) (s .held) p → Turn b s t → Means b s t p
-means-turn {b} {p} {s} i k h (Turn.rest {q} e w f) =
+means-next : {b p : List ℕ} {s t : BlockState} → s .used + longestLine ≤ length (s .out) → length (s .line) ≡ longestEntry → Holds (s .line) (s .held) p → NextLine b s t → Means b s t p
+means-next {b} {p} {s} i k h (NextLine.rest {q} e w f) =
     let g = holds-more k h f in
     record {
       taken = q;
@@ -130,7 +129,7 @@ means-turn {b} {p} {s} i k h (Turn.rest {q} e w f) =
       buffer = g .0;
       holds = g .1;
     }
-means-turn {b} {p} {s} i k h (Turn.line {q} {t = t} u e w f g m) =
+means-next {b} {p} {s} i k h (NextLine.line {q} {t = t} u e w f g m) =
     let held = holds-more k h f in
     record {
       taken = q ++ (newline ∷ []);
@@ -162,7 +161,7 @@ all-join : {ls ms : List (List ℕ)} {t u : List ℕ} → AllListed ls t → All
 all-join AllListed.none q = q
 all-join {ms = ms} {u = u} (AllListed.next {l} {ls} {t} {u = v} p r) q = subst (AllListed ((l ∷ ls) ++ ms)) (sym (append-assoc t v u)) (AllListed.next p (all-join r q))
 
-means-then : {b p : List ℕ} {s t e : Stand} (m : Means b s t p) → Means b t e (m .unfinished) → Means b s e p
+means-then : {b p : List ℕ} {s t e : BlockState} (m : Means b s t p) → Means b t e (m .unfinished) → Means b s e p
 means-then {s = s} {t} m n =
     record {
       taken = m .taken ++ n .taken;
@@ -182,11 +181,11 @@ means-then {s = s} {t} m n =
     long : length (t .out) ≡ length (s .out)
     long = ap length (m .out-is) ∙ length-put (s .out) (s .used) (m .text) (m .room)
 
-pub block-means : {b p : List ℕ} {s e : Stand} → length (s .line) ≡ 512 → s .used ≤ length (s .out) → Holds (s .line) (s .held) p → Lists b s e → Means b s e p
+pub block-means : {b p : List ℕ} {s e : BlockState} → length (s .line) ≡ longestEntry → s .used ≤ length (s .out) → Holds (s .line) (s .held) p → Lists b s e → Means b s e p
 block-means k i h (Lists.block-ends x) = means-none k i h
 block-means k i h (Lists.out-of-room x) = means-none k i h
 block-means {s = s} k i h (Lists.goes-on {t = t} x y w l) =
-    let m = means-turn y k h w in
+    let m = means-next y k h w in
     means-then m (block-means (m .buffer) (omega (arith, m .used-is, m .room, ap length (m .out-is), length-put (s .out) (s .used) (m .text) (m .room))) (m .holds) l)
 
 last-means : {l : List ℕ} {n : ℕ} {r t : List ℕ} → Holds l n r → LastLine l n t → (ms : List (List ℕ)) × Last r ms × AllListed ms t
@@ -199,12 +198,12 @@ last-means {r = r} {t} h (LastLine.one-more i g) = (r ∷ [], Last.some (some h 
     some (Holds.fits i e k) j = omega arith
     some (Holds.over i k) j = omega arith
 
--- ---- a whole run: calls of `list_block` on whatever parts the input is read in, each writing from the front of its output, and then the last line
+-- ---- calls of `list_block` on whatever parts the input is read in, each writing from the front of its output, and then the last line
 
-pub data Session : List ℕ → ℕ → List (List ℕ) → List ℕ → Type 0 where
-  ends : {l : List ℕ} {n : ℕ} {t : List ℕ} → LastLine l n t → Session l n [] t
-  reads : {b c : List ℕ} {at : ℕ} {l o : List ℕ} {n : ℕ} {e : Stand} {cs : List (List ℕ)} {t : List ℕ}
-      → Lists b (stand at l n o 0) e → drop at b ≡ c ++ drop (e .at) b → Session (e .line) (e .held) cs t → Session l n (c ∷ cs) (take (e .used) (e .out) ++ t)
+pub data Calls : List ℕ → ℕ → List (List ℕ) → List ℕ → Type 0 where
+  ends : {l : List ℕ} {n : ℕ} {t : List ℕ} → LastLine l n t → Calls l n [] t
+  reads : {b c : List ℕ} {at : ℕ} {l o : List ℕ} {n : ℕ} {e : BlockState} {cs : List (List ℕ)} {t : List ℕ}
+      → Lists b (blockState at l n o 0) e → drop at b ≡ c ++ drop (e .at) b → Calls (e .line) (e .held) cs t → Calls l n (c ∷ cs) (take (e .used) (e .out) ++ t)
 
 abbrev pub joined : List (List ℕ) → List ℕ
 joined [] = []
@@ -216,24 +215,24 @@ same-front p q s e =
     let n : length p ≡ length q = omega (arith, ap length e, length-append p s, length-append q s) in
     sym (take-at p s (length p) refl) ∙ ap₂ (λ (i : ℕ) (x : List ℕ). take i x) n e ∙ take-at q s (length q) refl
 
-session-means : {l : List ℕ} {n : ℕ} {cs : List (List ℕ)} {p t : List ℕ} → length l ≡ 512 → Holds l n p → Session l n cs t
+calls-mean : {l : List ℕ} {n : ℕ} {cs : List (List ℕ)} {p t : List ℕ} → length l ≡ longestEntry → Holds l n p → Calls l n cs t
     → (ls : List (List ℕ)) × (r : List ℕ) × (ms : List (List ℕ)) × Cuts p (joined cs) ls r × Last r ms × AllListed (ls ++ ms) t
-session-means {p = p} k h (Session.ends w) =
+calls-mean {p = p} k h (Calls.ends w) =
     let (ms, x, y) = last-means h w in ([], p, ms, subst (Cuts p [] []) (append-nil p) (Cuts.rest Without.none), x, y)
-session-means {p = p} k h (Session.reads {b} {c} {o = o} {e} {cs} {t} w d v) =
+calls-mean {p = p} k h (Calls.reads {b} {c} {o = o} {e} {cs} {t} w d v) =
     let m = block-means k (omega arith) h w in
-    let (ls, r, ms, x, y, z) = session-means (m .buffer) (m .holds) v in
+    let (ls, r, ms, x, y, z) = calls-mean (m .buffer) (m .holds) v in
     let f : m .taken ≡ c = same-front (m .taken) c (drop (e .at) b) (sym (m .bytes-are) ∙ d) in
     (m .lines ++ ls, r, ms, subst (λ (i : List ℕ). Cuts p (i ++ joined cs) (m .lines ++ ls) r) f (cuts-join (m .cuts) x), y, subst (λ (i : List (List ℕ)). AllListed i (take (e .used) (e .out) ++ t)) (sym (append-assoc (m .lines) ls ms)) (subst (λ (i : List ℕ). AllListed (m .lines ++ (ls ++ ms)) (i ++ t)) (sym (front m)) (all-join (m .listed) z)))
   where
-    front : {at : ℕ} {l : List ℕ} {n : ℕ} {p : List ℕ} (m : Means b (stand at l n o 0) e p) → take (e .used) (e .out) ≡ m .text
+    front : {at : ℕ} {l : List ℕ} {n : ℕ} {p : List ℕ} (m : Means b (blockState at l n o 0) e p) → take (e .used) (e .out) ≡ m .text
     front m = ap (take (e .used)) (m .out-is) ∙ take-at (m .text) (drop (0 + length (m .text)) o) (e .used) (omega (arith, m .used-is))
 
--- the header and what a run writes are the listing of what it reads
-pub session-lists : {l : List ℕ} {cs : List (List ℕ)} {t : List ℕ} → length l ≡ 512 → Session l 0 cs t → Listing (joined cs) (header ++ t)
-session-lists {l} k s =
-    let (ls, r, ms, x, y, z) = session-means k (holds-none l) s in listing (cuts-lines Without.none x y) z
+-- the header and what the calls write are the listing of what they read
+pub calls-list : {l : List ℕ} {cs : List (List ℕ)} {t : List ℕ} → length l ≡ longestEntry → Calls l 0 cs t → Listing (joined cs) (header ++ t)
+calls-list {l} k s =
+    let (ls, r, ms, x, y, z) = calls-mean k (holds-none l) s in listing (cuts-lines Without.none x y) z
 
 -- so it does not matter in what parts the input comes
-pub any-reads : {l m : List ℕ} {cs ds : List (List ℕ)} {t u : List ℕ} → length l ≡ 512 → length m ≡ 512 → Session l 0 cs t → Session m 0 ds u → joined cs ≡ joined ds → header ++ t ≡ header ++ u
-any-reads {u = u} j k s v e = listing-one (session-lists j s) (subst (λ (i : List ℕ). Listing i (header ++ u)) (sym e) (session-lists k v))
+pub any-reads : {l m : List ℕ} {cs ds : List (List ℕ)} {t u : List ℕ} → length l ≡ longestEntry → length m ≡ longestEntry → Calls l 0 cs t → Calls m 0 ds u → joined cs ≡ joined ds → header ++ t ≡ header ++ u
+any-reads {u = u} j k s v e = listing-one (calls-list j s) (subst (λ (i : List ℕ). Listing i (header ++ u)) (sym e) (calls-list k v))

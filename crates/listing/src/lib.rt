@@ -1,14 +1,20 @@
 // The listing: lines of a register in, lines of numbers out. A line is a calendar name, a tab and a date text; what is written for it is
-// the day that it comes to, or its refusal. Input comes in blocks that end anywhere, and what is between two blocks is a value.
+// the day that it comes to, or its refusal. Input comes in blocks that end anywhere. What is left of a line between two blocks is held: `held`.
+mod held;
 
 ghost use Prim.Native.Nat.{_+_, _<_, _≤_};
 ghost use lib.ListN.{length};
 ghost use Rattle.writer.specs.Promise.{Writes};
-ghost use Rattle.heldline.specs.Held.{HeldLine};
+ghost use Rattle.linetext.specs.Line.{longestLine};
 ghost use Rattle.listing.specs.Lines.{Listed};
-ghost use Rattle.listing.specs.Blocks.{Wrote, stand, Turn, Lists};
+ghost use Rattle.listing.specs.Promise.{HeldLine, blockState, NextLine, Lists};
+ghost use Rattle.listing.specs.Laws.{Wrote};
 pub use columns::put_header;
-pub use heldline::list_last;
+pub use entry::LONGEST_ENTRY;
+use held::add_to_line;
+use held::held_line;
+pub use held::list_last;
+use linetext::LONGEST_LINE;
 use writer::Written;
 use writer::buffer;
 
@@ -27,30 +33,30 @@ pub struct Progress {
 }
 
 // What is written for the line that is held, where there is room for it.
-fn put_held(line: &[u8; 512], held: usize, out: &mut [u8], at: usize) -> usize
-    requires { ⌜ at + 132 ≤ length (now out) ⌝ }
+fn put_held(line: &[u8; LONGEST_ENTRY], held: usize, out: &mut [u8], at: usize) -> usize
+    requires { ⌜ at + longestLine ≤ length (now out) ⌝ }
     ensures { λ r. ⌜ Wrote (HeldLine (now (line .entry)) held) (now (out .entry)) at (now (out .exit)) r ⌝ }
 {
-    match linetext::put_line(out, at, heldline::held_line(line, held)) {
+    match linetext::put_line(out, at, held_line(line, held)) {
         Written::Done(next) => next,
         Written::Refused(_) => at,
     }
 }
 
-// One line of the block, or what the block has of it.
-fn turn(
+// Lists one line of the block, or holds what the block has of it.
+fn list_next(
     block: &[u8],
     at: usize,
-    line: &mut [u8; 512],
+    line: &mut [u8; LONGEST_ENTRY],
     held: usize,
     out: &mut [u8],
     used: usize,
 ) -> Progress
-    requires { ⌜ (at < length (now block)) × (used + 132 ≤ length (now out)) ⌝ }
-    ensures { λ p. ⌜ Turn (now (block .entry)) (stand at (now (line .entry)) held (now (out .entry)) used) (stand (p .at) (now (line .exit)) (p .held) (now (out .exit)) (p .used)) ⌝ }
+    requires { ⌜ (at < length (now block)) × (used + longestLine ≤ length (now out)) ⌝ }
+    ensures { λ p. ⌜ NextLine (now (block .entry)) (blockState at (now (line .entry)) held (now (out .entry)) used) (blockState (p .at) (now (line .exit)) (p .held) (now (out .exit)) (p .used)) ⌝ }
 {
     let end = bytesearch::up_to(block, at, b'\n');
-    let n = heldline::fill(line, held, &block[at..end]);
+    let n = add_to_line(line, held, &block[at..end]);
     if end < block.len() {
         let next = put_held(line, n, out, used);
         return Progress {
@@ -66,16 +72,16 @@ fn turn(
     }
 }
 
-// Lists the lines of a block from a place on, as long as the output has room. What is held of a line goes on from block to block.
+// Lists the lines of a block from an offset on, as long as the output has room. A line that is held goes on in the next block.
 pub fn list_block(
     block: &[u8],
     from: usize,
-    line: &mut [u8; 512],
+    line: &mut [u8; LONGEST_ENTRY],
     held: usize,
     out: &mut [u8],
     used: usize,
 ) -> Progress
-    ensures { λ p. ⌜ Lists (now (block .entry)) (stand from (now (line .entry)) held (now (out .entry)) used) (stand (p .at) (now (line .exit)) (p .held) (now (out .exit)) (p .used)) ⌝ }
+    ensures { λ p. ⌜ Lists (now (block .entry)) (blockState from (now (line .entry)) held (now (out .entry)) used) (blockState (p .at) (now (line .exit)) (p .held) (now (out .exit)) (p .used)) ⌝ }
 {
     let mut p = Progress {
         at: from,
@@ -83,8 +89,8 @@ pub fn list_block(
         used,
     };
     while p.at < block.len() {
-        if buffer::has_room(out.len(), p.used, 132) {
-            p = turn(block, p.at, line, p.held, out, p.used);
+        if buffer::has_room(out.len(), p.used, LONGEST_LINE) {
+            p = list_next(block, p.at, line, p.held, out, p.used);
         } else {
             return p;
         }

@@ -3,10 +3,11 @@
 
 ghost use Prim.Native.Nat.{_≤_};
 ghost use lib.ListN.{length};
+use listing::LONGEST_ENTRY;
 use writer::Written;
 
 // The listing of two blocks, the first of `cut` bytes: how many bytes it has.
-fn list_cut(input: &[u8], cut: usize, line: &mut [u8; 512], out: &mut [u8]) -> usize
+fn list_cut(input: &[u8], cut: usize, line: &mut [u8; LONGEST_ENTRY], out: &mut [u8]) -> usize
     requires { ⌜ cut ≤ length (now input) ⌝ }
 {
     let first = listing::list_block(&input[..cut], 0, line, 0, out, 0);
@@ -24,7 +25,13 @@ fn front<'a>(s: &'a [u8], size: usize) -> &'a [u8] {
     s
 }
 
-fn is_same(input: &[u8], cut: usize, line: &mut [u8; 512], out: &mut [u8], expected: &[u8]) -> bool
+fn is_same(
+    input: &[u8],
+    cut: usize,
+    line: &mut [u8; LONGEST_ENTRY],
+    out: &mut [u8],
+    expected: &[u8],
+) -> bool
     requires { ⌜ cut ≤ length (now input) ⌝ }
 {
     let size = list_cut(input, cut, line, out);
@@ -32,7 +39,7 @@ fn is_same(input: &[u8], cut: usize, line: &mut [u8; 512], out: &mut [u8], expec
 }
 
 // How many of the ways to cut the input in two give the expected listing.
-fn same_ways(input: &[u8], line: &mut [u8; 512], out: &mut [u8], expected: &[u8]) -> u64 {
+fn same_ways(input: &[u8], line: &mut [u8; LONGEST_ENTRY], out: &mut [u8], expected: &[u8]) -> u64 {
     let mut same: u64 = 0;
     let mut cut: usize = 0;
     while cut < input.len() {
@@ -60,7 +67,7 @@ fn write_counts(ways: u64, same: u64) {
     io::write_all(1, b" the same\n");
 }
 
-fn check_all(input: &[u8], line: &mut [u8; 512], out: &mut [u8], other: &mut [u8]) {
+fn check_all(input: &[u8], line: &mut [u8; LONGEST_ENTRY], out: &mut [u8], other: &mut [u8]) {
     write_header(out);
     let size = list_cut(input, 0, line, out);
     let expected = front(out, size);
@@ -73,7 +80,7 @@ fn main() {
     let mut input = io::buffer();
     let mut out = io::buffer();
     let mut other = io::buffer();
-    let mut line = [0u8; 512];
+    let mut line = [0u8; LONGEST_ENTRY];
     let size = io::read_full(0, &mut input);
     check_all(&input[..size], &mut line, &mut out, &mut other);
 }

@@ -1,6 +1,6 @@
 -- From what the calls below say to the promises.
 -- Assumes nothing.
-use Prim.Native.Nat.{ℕ, _+_, _≤_, _<_}
+use Prim.Native.Nat.{ℕ, _≤_, _<_}
 use mathlib.Core.Path.{_≡_, refl, sym, _∙_, ap, subst}
 use mathlib.Core.Bool.{Bool}
 use mathlib.Core.List.{List}
@@ -9,24 +9,22 @@ use native.Mathlib.Omega.{arith}
 use lib.ListN.{length, take}
 use lib.IntN.{ℤ}
 use Rattle.whole.specs.Text.{bytes}
-use Rattle.writer.specs.Promise.{put}
-use Rattle.writer.specs.Promise.{Puts, Writes}
+use Rattle.writer.specs.Promise.{put, Puts, Writes}
 use Rattle.writer.specs.declared.Written.{Written}
 use Rattle.refusals.specs.declared.Refusal.{Refusal}
 use Rattle.columns.specs.Columns.{header}
-use Rattle.heldline.specs.Held.{LastLine, HeldLine}
-use Rattle.heldline.specs.Laws.{held-short}
-use Rattle.listing.specs.Blocks.{Stand, stand, Lists}
-use Rattle.filter.specs.declared.Phase.{Phase}
+use Rattle.listing.specs.Promise.{LastLine, BlockState, blockState, Lists}
+use Rattle.listing.specs.Laws.{held-short}
 use Rattle.filter.specs.declared.Phase.the-variants.{Reading, Midway, Closing}
 use Rattle.filter.specs.declared.Event.{Event}
 use Rattle.filter.specs.declared.State.{State}
-use Rattle.filter.specs.Promise.{eventOf, stateWith}
+use Rattle.filter.specs.Promise.{eventOf, stateWith, blockSize}
+use Rattle.linetext.specs.Line.{longestLine}
 use Rattle.listrun.specs.Promise.{Starts, stateAt, Advances, Closes, GoesOn}
 
--- ---- a text of at most 132 bytes has room in the output
+-- ---- a text that is no longer than the longest line has room in the output
 
-module _ {P : List ℕ → Type 0} {o : List ℕ} (short : (t : List ℕ) → P t → length t ≤ 132) (long : length o ≡ 65536) where
+module _ {P : List ℕ → Type 0} {o : List ℕ} (short : (t : List ℕ) → P t → length t ≤ longestLine) (long : length o ≡ blockSize) where
   -- so it was written
   written : {o′ : List ℕ} {n : ℕ} → Writes P o 0 o′ (Written.Done n) → (t : List ℕ) × P t × (o′ ≡ put o 0 t) × (n ≡ length t)
   written (Writes.writes {t} p (Puts.done h)) = (t, p, refl, zero-add (length t))
@@ -34,15 +32,15 @@ module _ {P : List ℕ → Type 0} {o : List ℕ} (short : (t : List ℕ) → P 
   not-refused : {o′ : List ℕ} {f : Refusal} → Writes P o 0 o′ (Written.Refused f) → ⊥
   not-refused (Writes.writes {t} p (Puts.short h)) = omega (arith, short t p)
 
-last-short : (l : List ℕ) (n : ℕ) (t : List ℕ) → LastLine l n t → length t ≤ 132
+last-short : (l : List ℕ) (n : ℕ) (t : List ℕ) → LastLine l n t → length t ≤ longestLine
 last-short l n t LastLine.no-more = omega arith
 last-short l n t (LastLine.one-more h x) = held-short x
 
-header-short : (t : List ℕ) → t ≡ header → length t ≤ 132
+header-short : (t : List ℕ) → t ≡ header → length t ≤ longestLine
 unfolding header bytes
 header-short t e = omega (arith, ap length e)
 
-module _ {o o′ : List ℕ} (long : length o ≡ 65536) where
+module _ {o o′ : List ℕ} (long : length o ≡ blockSize) where
   pub starts-with : {n : ℕ} {s : State} → Writes (λ (t : List ℕ). t ≡ header) o 0 o′ (Written.Done n) → s ≡ stateWith Reading n → Starts o o′ s
   starts-with {n} {s} w e =
       let (t, p, q, k) = written header-short long w in
@@ -62,10 +60,10 @@ module _ {o o′ : List ℕ} (long : length o ≡ 65536) where
 
 -- ---- a turn
 
-lists-in : {c d : List ℕ} {s e : Stand} → c ≡ d → Lists c s e → Lists d s e
+lists-in : {c d : List ℕ} {s e : BlockState} → c ≡ d → Lists c s e → Lists d s e
 lists-in {s = s} {e} q w = subst (λ (x : List ℕ). Lists x s e) q w
 
-module _ {b c l o l′ o′ : List ℕ} {from n h at h′ u : ℕ} {s : State} (e : c ≡ take n b) (w : Lists c (stand from l h o 0) (stand at l′ h′ o′ u)) where
+module _ {b c l o l′ o′ : List ℕ} {from n h at h′ u : ℕ} {s : State} (e : c ≡ take n b) (w : Lists c (blockState from l h o 0) (blockState at l′ h′ o′ u)) where
   pub stays-within : at < n → s ≡ stateAt Midway at n h′ u → Advances b l o from n h l′ o′ s
   stays-within i q = subst (Advances b l o from n h l′ o′) (sym q) (Advances.within (lists-in e w) i)
 

@@ -6,14 +6,13 @@ use lib.ListN.{length, take}
 use Rattle.whole.specs.Text.{bytes}
 use Rattle.writer.specs.Promise.{put}
 use Rattle.columns.specs.Columns.{header}
-use Rattle.heldline.specs.Held.{LastLine}
-use Rattle.listing.specs.Blocks.{stand, Lists}
+use Rattle.listing.specs.Promise.{LastLine, blockState, Lists}
 use Rattle.filter.specs.declared.Phase.{Phase}
 use Rattle.filter.specs.declared.Phase.the-variants.{Reading, Midway, Closing, Ended}
 use Rattle.filter.specs.declared.Event.{Event}
 use Rattle.filter.specs.declared.Event.the-variants.{Block, Rest, InputEnds, Unread, Unwritten, Finished}
 use Rattle.filter.specs.declared.State.{State}
-use Rattle.filter.specs.Promise.{stateWith, Says}
+use Rattle.filter.specs.Promise.{stateWith, PutsMessage}
 
 -- the header stands at the front of the output o
 pub data Starts (o : List ℕ) : List ℕ → State → Type 0 where
@@ -22,11 +21,11 @@ pub data Starts (o : List ℕ) : List ℕ → State → Type 0 where
 abbrev pub stateAt : Phase → ℕ → ℕ → ℕ → ℕ → State
 stateAt p at n h u = record { phase = p; at = at; count = n; held = h; used = u }
 
--- Lines of the first n bytes of b, from a place on, stand at the front of the output, with h bytes of a line held before them in l. Those bytes are then
+-- Lines of the first n bytes of b, from an offset on, stand at the front of the output, with h bytes of a line held before them in l. Those bytes are then
 -- used up, or the output was full before.
 pub data Advances (b l o : List ℕ) (from n h : ℕ) : List ℕ → List ℕ → State → Type 0 where
-  used-up : {l′ o′ : List ℕ} {at h′ u : ℕ} → Lists (take n b) (stand from l h o 0) (stand at l′ h′ o′ u) → n ≤ at → Advances b l o from n h l′ o′ (stateAt Reading at n h′ u)
-  within : {l′ o′ : List ℕ} {at h′ u : ℕ} → Lists (take n b) (stand from l h o 0) (stand at l′ h′ o′ u) → at < n → Advances b l o from n h l′ o′ (stateAt Midway at n h′ u)
+  used-up : {l′ o′ : List ℕ} {at h′ u : ℕ} → Lists (take n b) (blockState from l h o 0) (blockState at l′ h′ o′ u) → n ≤ at → Advances b l o from n h l′ o′ (stateAt Reading at n h′ u)
+  within : {l′ o′ : List ℕ} {at h′ u : ℕ} → Lists (take n b) (blockState from l h o 0) (blockState at l′ h′ o′ u) → at < n → Advances b l o from n h l′ o′ (stateAt Midway at n h′ u)
 
 -- the last line, where it had no newline, stands there
 pub data Closes (l : List ℕ) (h : ℕ) (o : List ℕ) : List ℕ → State → Type 0 where
@@ -43,6 +42,6 @@ pub data GoesOn (b l o : List ℕ) (s : State) : Event → List ℕ → List ℕ
   next-block : {n : ℕ} {l′ o′ : List ℕ} {s′ : State} → Advances b l o 0 n (s .held) l′ o′ s′ → GoesOn b l o s (Block n) l′ o′ s′
   same-block : {l′ o′ : List ℕ} {s′ : State} → Advances b l o (s .at) (s .count) (s .held) l′ o′ s′ → GoesOn b l o s Rest l′ o′ s′
   last-line : {o′ : List ℕ} {s′ : State} → Closes l (s .held) o o′ s′ → GoesOn b l o s InputEnds l o′ s′
-  cannot-read : {o′ : List ℕ} {s′ : State} → Says unread o o′ s′ → GoesOn b l o s Unread l o′ s′
-  cannot-write : {o′ : List ℕ} {s′ : State} → Says unwritten o o′ s′ → GoesOn b l o s Unwritten l o′ s′
+  cannot-read : {o′ : List ℕ} {s′ : State} → PutsMessage unread o o′ s′ → GoesOn b l o s Unread l o′ s′
+  cannot-write : {o′ : List ℕ} {s′ : State} → PutsMessage unwritten o o′ s′ → GoesOn b l o s Unwritten l o′ s′
   ends : GoesOn b l o s Finished l o (stateWith Ended 0)

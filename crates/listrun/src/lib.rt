@@ -3,9 +3,11 @@
 ghost use mathlib.Core.Path.{_≡_};
 ghost use Rattle.filter.specs.Promise.{eventOf};
 ghost use Rattle.listrun.specs.Promise.{Starts, GoesOn, Advances, Closes, stateAt};
+use filter::BLOCK_SIZE;
 use filter::Event;
 use filter::Phase;
 use filter::State;
+pub use listing::LONGEST_ENTRY;
 use listing::Progress;
 use writer::Written;
 
@@ -16,7 +18,7 @@ const UNWRITTEN: [u8; 72] =
     *b"list: standard output could not be written; the listing is not complete\n";
 
 // The header stands in the output, and the input is to be read.
-pub fn start(out: &mut [u8; 65536]) -> State
+pub fn start(out: &mut [u8; BLOCK_SIZE]) -> State
     ensures { λ s. ⌜ Starts (now (out .entry)) (now (out .exit)) s ⌝ }
 {
     match listing::put_header(out, 0) {
@@ -30,9 +32,9 @@ pub fn go_on(
     state: State,
     written: bool,
     got: isize,
-    block: &[u8; 65536],
-    line: &mut [u8; 512],
-    out: &mut [u8; 65536],
+    block: &[u8; BLOCK_SIZE],
+    line: &mut [u8; LONGEST_ENTRY],
+    out: &mut [u8; BLOCK_SIZE],
 ) -> State
     ensures { λ s. ⌜ GoesOn (now (block .entry)) (now (line .entry)) (now (out .entry)) state (eventOf (state .phase) written got) (now (line .exit)) (now (out .exit)) s ⌝ }
 {
@@ -46,14 +48,14 @@ pub fn go_on(
     }
 }
 
-// Lines of the block, from a place on.
+// Lines of the block, from an offset on.
 fn advance(
-    block: &[u8; 65536],
+    block: &[u8; BLOCK_SIZE],
     from: usize,
     count: usize,
-    line: &mut [u8; 512],
+    line: &mut [u8; LONGEST_ENTRY],
     held: usize,
-    out: &mut [u8; 65536],
+    out: &mut [u8; BLOCK_SIZE],
 ) -> State
     ensures { λ s. ⌜ Advances (now (block .entry)) (now (line .entry)) (now (out .entry)) from count held (now (line .exit)) (now (out .exit)) s ⌝ }
 {
@@ -77,7 +79,7 @@ fn state_at(phase: Phase, p: Progress, count: usize) -> State
 }
 
 // The last line, where it had no newline.
-fn close(line: &[u8; 512], held: usize, out: &mut [u8; 65536]) -> State
+fn close(line: &[u8; LONGEST_ENTRY], held: usize, out: &mut [u8; BLOCK_SIZE]) -> State
     ensures { λ s. ⌜ Closes (now (line .entry)) held (now (out .entry)) (now (out .exit)) s ⌝ }
 {
     match listing::list_last(line, held, out, 0) {

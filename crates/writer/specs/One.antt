@@ -1,17 +1,62 @@
 -- Two results that a promise allows are one: a theorem for each promise.
 -- Assumes nothing.
-use Prim.Native.Nat.{ℕ}
+use Prim.Native.Nat.{ℕ, suc, _+_, _-_, _*_, _≤_, _<_}
 use mathlib.Core.Path.{_≡_, refl, sym, _∙_, ap, ap₂, subst}
-use mathlib.Core.Bool.{false, Bool, true}
 use mathlib.Core.List.{List, _∷_, _++_}
+use mathlib.Core.Logic.{⊎-elim}
 use native.Mathlib.Omega.{arith}
-use lib.ListN.{length}
-use Rattle.writer.specs.Promise.{Copies, copied, no-room, WholeDecimal, YmdDecimal, Puts, Writes, PutNumber, PutWhole, WriteYmd, wholeText, Signs, Width}
-use Rattle.writer.specs.declared.buffer.Copied.{Copied}
-use Rattle.digits.specs.Numerals.{dash}
+use lib.ListN.{length, getD}
+use mathlib.Core.Bool.{false, Bool, true}
 use lib.IntN.{ℤ}
-use Rattle.writer.specs.Decimals.{decimal-of, decimal-one, length-digits}
+use Rattle.whole.specs.Tests.{lt-or-ge}
+use Rattle.digits.specs.Numerals.{valueFrom, valueOf, Digits, Numeral, dash}
+use Rattle.writer.specs.Promise.{Decimal, Width, Copies, copied, no-room, WholeDecimal, YmdDecimal, Puts, Writes, PutNumber, PutWhole, WriteYmd, wholeText, Signs}
+use Rattle.writer.specs.declared.buffer.Copied.{Copied}
+use Rattle.writer.specs.Laws.{decimal-of, length-digits}
 use Rattle.writer.specs.declared.Written.{Written}
+
+-- ---- a number has one decimal
+
+-- digits of one length that write the same after v and after w are the same
+same-digits : {p q : List ℕ} → Digits p → Digits q → length p ≡ length q → (v w : ℕ) → valueFrom v p ≡ valueFrom w q → (v ≡ w) × (p ≡ q)
+same-digits Digits.none Digits.none l v w e = (e, refl)
+same-digits Digits.none (Digits.more d ds) l v w e = absurd (omega arith)
+same-digits (Digits.more d ds) Digits.none l v w e = absurd (omega arith)
+same-digits (Digits.more {b} {s} d ds) (Digits.more {b = c} {s = t} d′ ds′) l v w e =
+    let h = same-digits ds ds′ (omega arith) (v * 10 + (b - 48)) (w * 10 + (c - 48)) e in
+    (omega (arith, h .0, d .low, d .high, d′ .low, d′ .high), ap₂ (λ (x : ℕ) (y : List ℕ). x ∷ y) (omega (arith, h .0, d .low, d .high, d′ .low, d′ .high)) (h .1))
+
+-- fewer digits, or as many after a smaller number, write less
+less-digits : {p q : List ℕ} → Digits p → Digits q → length p ≡ length q → (v w : ℕ) → v < w → valueFrom v p < valueFrom w q
+less-digits Digits.none Digits.none l v w h = h
+less-digits Digits.none (Digits.more d ds) l v w h = absurd (omega arith)
+less-digits (Digits.more d ds) Digits.none l v w h = absurd (omega arith)
+less-digits (Digits.more {b} {s} d ds) (Digits.more {b = c} {s = t} d′ ds′) l v w h =
+    less-digits ds ds′ (omega arith) (v * 10 + (b - 48)) (w * 10 + (c - 48)) (omega (arith, d .low, d .high))
+
+fewer-digits : {p q : List ℕ} → Digits p → Digits q → length p ≤ length q → (w : ℕ) → 0 < w → valueOf p < valueFrom w q
+fewer-digits {p} ds Digits.none l w h = less-digits ds Digits.none (omega arith) 0 w h
+fewer-digits {p} ds (Digits.more {b = c} {s = t} d ds′) l w h = ⊎-elim
+    (λ k. fewer-digits ds ds′ (omega arith) (w * 10 + (c - 48)) (omega arith))
+    (λ k. less-digits ds (Digits.more {b = c} {s = t} d ds′) (omega arith) 0 w h)
+    (lt-or-ge (length p) (suc (length t)))
+
+-- an unpadded numeral is no shorter than any other of the same number
+no-longer : {p q : List ℕ} {n : ℕ} → Numeral p n → Decimal q n → length p < length q → ⊥
+no-longer {p} {q} {n} w d l = by (d .numeral .digits) (d .unpadded) l (d .numeral .writes)
+  where
+    by : {r : List ℕ} → Digits r → (getD r 0 0 ≡ 48 → length r ≡ 1) → length p < length r → valueOf r ≡ n → ⊥
+    by Digits.none u l e = omega arith
+    by (Digits.more {b} {s} x xs) u l e = ⊎-elim
+        (λ k. omega (arith, fewer-digits (w .digits) xs (omega arith) (0 * 10 + (b - 48)) (omega arith), w .writes))
+        (λ k. omega (arith, u (omega (arith, x .low)), w .some))
+        (lt-or-ge 48 b)
+
+pub decimal-one : {p q : List ℕ} {n : ℕ} → Decimal p n → Decimal q n → p ≡ q
+decimal-one {p} {q} {n} d e = ⊎-elim
+    (λ h. absurd (no-longer (d .numeral) e h))
+    (λ h. ⊎-elim (λ k. absurd (no-longer (e .numeral) d k)) (λ k. same-digits (d .numeral .digits) (e .numeral .digits) (omega arith) 0 0 (d .numeral .writes ∙ sym (e .numeral .writes)) .1) (lt-or-ge (length q) (length p)))
+    (lt-or-ge (length p) (length q))
 
 -- ---- bytes copied, and how many digits a number has
 

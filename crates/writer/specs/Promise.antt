@@ -1,5 +1,5 @@
 -- What is promised: a text put into a lent buffer and what a copier says of it; how a number is written, and how many digits it has; numbers and dates
--- with no padding and a `-` before a negative number, at a place of a buffer, and what a writer says of them.
+-- with no padding and a `-` before a negative number, at an offset of a buffer, and what a writer says of them.
 -- Assumes nothing.
 use Prim.Native.Nat.{ℕ, _+_, _≤_, _<_, zero, suc, _/_, _%_, _^_}
 use mathlib.Core.List.{List, _++_, [], _∷_}
@@ -18,7 +18,7 @@ use mathlib.Core.Bool.{Bool, true, false}
 abbrev pub put : List ℕ → ℕ → List ℕ → List ℕ
 put b at t = take at b ++ (t ++ drop (at + length t) b)
 
--- The text t is copied into the buffer b from `at` on, and the answer tells the place after it; or b is too short for it, and is left as it was.
+-- The text t is copied into the buffer b from `at` on, and the answer tells the offset after it; or b is too short for it, and is left as it was.
 pub data Copies (t b : List ℕ) (at : ℕ) : List ℕ → Copied → Type 0 where
   copied : at + length t ≤ length b → Copies t b at (put b at t) (Copied.To (at + length t))
   no-room : length b < at + length t → Copies t b at b Copied.NoRoom
@@ -58,7 +58,7 @@ pub data WholeDecimal : List ℕ → ℤ → Type 0 where
 pub data YmdDecimal : List ℕ → ℤ → ℕ → ℕ → Type 0 where
   ymd-decimal : {p q t : List ℕ} {y : ℤ} {m d : ℕ} → WholeDecimal p y → Decimal q m → Decimal t d → YmdDecimal (p ++ (dash ∷ (q ++ (dash ∷ t)))) y m d
 
--- The text t is to be written from `at` on. It is, and the answer tells the place after it, which for a text at the front is its length; or the buffer is
+-- The text t is to be written from `at` on. It is, and the answer tells the offset after it, which for a text at the front is its length; or the buffer is
 -- too short for it, and is left as it was.
 pub data Puts (t b : List ℕ) (at : ℕ) : List ℕ → Written → Type 0 where
   done : at + length t ≤ length b → Puts t b at (put b at t) (Written.Done (at + length t))

@@ -10,7 +10,7 @@ use lib.Seq.{take-append-seam}
 use lib.IntN.{ℤ, natAbs}
 use Rattle.digits.specs.Numerals.{dash}
 use Rattle.writer.specs.Promise.{put, WholeDecimal, YmdDecimal, Puts, Writes, WriteYmd}
-use Rattle.writer.specs.Decimals.{decimal-short}
+use Rattle.writer.specs.Laws.{decimal-short}
 use Rattle.writer.specs.declared.Written.{Written}
 
 -- ---- the text of a date

@@ -1,11 +1,11 @@
-// Bytes put into a buffer that is lent. Each call answers for any buffer and any place.
+// Bytes put into a buffer that is lent. Each call answers for any buffer and any offset.
 
 ghost use mathlib.Core.Path.{_≡_};
 ghost use Prim.Native.Nat.{_+_, _≤_};
 ghost use lib.ListN.{length};
 ghost use lib.Dec.{leb};
 ghost use Rattle.writer.specs.Promise.{Copies};
-ghost use Rattle.writer.specs.Buffers.{So};
+ghost use Rattle.writer.specs.Laws.{PutText};
 
 // Whether a text of `size` bytes has room from `at` on.
 pub fn has_room(len: usize, at: usize, size: usize) -> bool
@@ -20,7 +20,7 @@ pub fn has_room(len: usize, at: usize, size: usize) -> bool
 // All of a text.
 fn put_bytes(out: &mut [u8], at: usize, text: &[u8]) -> usize
     requires { ⌜ at + length (now text) ≤ length (now out) ⌝ }
-    ensures { λ r. ⌜ So (now (out .entry)) at (now (text .entry)) (now (out .exit)) r ⌝ }
+    ensures { λ r. ⌜ PutText (now (out .entry)) at (now (text .entry)) (now (out .exit)) r ⌝ }
 {
     let mut i: usize = 0;
     while i < text.len() {
@@ -36,7 +36,7 @@ pub enum Copied {
     NoRoom,
 }
 
-// Bytes as they stand: the answer tells the place after them.
+// Bytes as they stand: the answer tells the offset after them.
 pub fn copy_text(out: &mut [u8], at: usize, text: &[u8]) -> Copied
     ensures { λ r. ⌜ Copies (now (text .entry)) (now (out .entry)) at (now (out .exit)) r ⌝ }
 {

@@ -1,4 +1,4 @@
-// Numbers and year-month-day texts, written into a buffer that is lent. Each call answers for any buffer and any place.
+// Numbers and year-month-day texts, written into a buffer that is lent. Each call answers for any buffer and any offset.
 // For users: `write_ymd`, `put_number`, `put_whole`, and `Written`. For the crates above: all else.
 pub mod buffer;
 pub mod decimals;
@@ -8,7 +8,7 @@ ghost use mathlib.Core.Bool.{true};
 ghost use Prim.Native.Nat.{_+_, _≤_};
 ghost use lib.ListN.{length};
 ghost use Rattle.writer.specs.Promise.{Writes, PutNumber, PutWhole, WriteYmd, digitsOf, wholeText, Signs};
-ghost use Rattle.writer.specs.Buffers.{So};
+ghost use Rattle.writer.specs.Laws.{PutText};
 ghost use Rattle.writer.specs.Laws.{wholeWidth};
 use refusals::Refusal;
 
@@ -17,10 +17,10 @@ pub enum Written {
     Refused(Refusal),
 }
 
-// The last k digits of n from `at` on, and the place after them.
+// The last k digits of n from `at` on, and the offset after them.
 fn put_digits(buf: &mut [u8], at: usize, n: u64, k: usize) -> usize
     requires { ⌜ at + k ≤ length (now buf) ⌝ }
-    ensures { λ r. ⌜ So (now (buf .entry)) at (digitsOf k n) (now (buf .exit)) r ⌝ }
+    ensures { λ r. ⌜ PutText (now (buf .entry)) at (digitsOf k n) (now (buf .exit)) r ⌝ }
 {
     let mut rest = n;
     let mut left = k;
@@ -35,7 +35,7 @@ fn put_digits(buf: &mut [u8], at: usize, n: u64, k: usize) -> usize
 // A `-` and the last k digits of n, as in a negative number, or in a date before the month and the day.
 fn put_dashed(buf: &mut [u8], at: usize, n: u64, k: usize) -> usize
     requires { ⌜ at + 1 + k ≤ length (now buf) ⌝ }
-    ensures { λ r. ⌜ So (now (buf .entry)) at (wholeText true k n) (now (buf .exit)) r ⌝ }
+    ensures { λ r. ⌜ PutText (now (buf .entry)) at (wholeText true k n) (now (buf .exit)) r ⌝ }
 {
     buf[at] = b'-';
     put_digits(buf, at + 1, n, k)
@@ -44,7 +44,7 @@ fn put_dashed(buf: &mut [u8], at: usize, n: u64, k: usize) -> usize
 // A number with its sign: k is the width of its magnitude n.
 fn put_signed(buf: &mut [u8], at: usize, negative: bool, n: u64, k: usize) -> usize
     requires { ⌜ at + wholeWidth negative k ≤ length (now buf) ⌝ }
-    ensures { λ r. ⌜ So (now (buf .entry)) at (wholeText negative k n) (now (buf .exit)) r ⌝ }
+    ensures { λ r. ⌜ PutText (now (buf .entry)) at (wholeText negative k n) (now (buf .exit)) r ⌝ }
 {
     if negative {
         put_dashed(buf, at, n, k)
@@ -72,7 +72,7 @@ pub fn put_at(buf: &mut [u8], at: usize, negative: bool, n: u64) -> Written
     Written::Refused(refusals::refusal_with(18, size as u32))
 }
 
-// A number with no padding, from `at` on: the answer tells the place after it.
+// A number with no padding, from `at` on: the answer tells the offset after it.
 pub fn put_number(buf: &mut [u8], at: usize, n: u32) -> Written
     ensures { λ r. ⌜ PutNumber n (now (buf .entry)) at (now (buf .exit)) r ⌝ }
 {

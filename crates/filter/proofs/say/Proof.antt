@@ -1,6 +1,6 @@
 -- `filter::say` meets its promise.
 -- Assumes nothing.
-use Rattle.filter.specs.Laws.{says-so, says-nothing}
+use Rattle.filter.specs.Laws.{message-put, message-left-out}
 use borrow.Author.Needs.{needs}
 use Rattle.filter.proofs.say.Statement.{statement}
 use Rattle.filter.proofs.say.Tie as tie
@@ -21,10 +21,10 @@ state-with-requires-2 : tie.Need-state-with-requires-2
 state-with-requires-2 c κs = search needs
 
 returns : tie.Need-returns
-returns c = says-so (rw (c .before .before .used .given .1) at (c .before .before .before .before .copy-text .ensures)) (c .state-with .ensures)
+returns c = message-put (rw (c .before .before .used .given .1) at (c .before .before .before .before .copy-text .ensures)) (c .state-with .ensures)
 
 returns-2 : tie.Need-returns-2
-returns-2 c = says-nothing (rw (c .before .enum-told .given .1) at (c .before .before .before .copy-text .ensures)) (c .state-with2 .ensures)
+returns-2 c = message-left-out (rw (c .before .enum-told .given .1) at (c .before .before .before .copy-text .ensures)) (c .state-with2 .ensures)
 
 pub say-spec : {M : Type 1} → statement M
 say-spec =

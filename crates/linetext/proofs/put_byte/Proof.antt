@@ -1,7 +1,7 @@
 -- `linetext::put_byte` meets its promise: a byte stored is a text of one byte put there.
 -- Assumes nothing.
 use mathlib.Core.Path.{refl}
-use Rattle.writer.specs.Buffers.{put-byte}
+use Rattle.writer.specs.Laws.{put-byte}
 use borrow.Author.Needs.{needs}
 use Rattle.linetext.proofs.put_byte.Statement.{statement}
 use Rattle.linetext.proofs.put_byte.Tie as tie
@@ -16,7 +16,7 @@ same-length : tie.Need-same-length
 same-length c = search needs
 
 returns : tie.Need-returns
-returns c = record { is = put-byte _ _ _ (c .pre); place = refl }
+returns c = record { is = put-byte _ _ _ (c .pre); offset = refl }
 
 pub put-byte-spec : {M : Type 1} → statement M
 put-byte-spec = tie.close (tie.spec slice-write-out add-result same-length returns)

@@ -8,8 +8,8 @@ use Rattle.linetext.proofs.put_either.Tie as tie
 enum-known-line : tie.Need-enum-known-line
 enum-known-line c = search needs
 
-put-row-requires : tie.Need-put-row-requires
-put-row-requires c κs = search needs
+put-numbers-requires : tie.Need-put-numbers-requires
+put-numbers-requires c κs = search needs
 
 enum-known-line-2 : tie.Need-enum-known-line-2
 enum-known-line-2 c = search needs
@@ -21,7 +21,7 @@ same-length : tie.Need-same-length
 same-length c = search needs
 
 returns : tie.Need-returns
-returns c = line-as (c .before .before .before .before .before .line .given .1) (c .before .before .put-row .ensures)
+returns c = line-as (c .before .before .before .before .before .line .given .1) (c .before .before .put-numbers .ensures)
 
 same-length-2 : tie.Need-same-length-2
 same-length-2 c = search needs
@@ -34,7 +34,7 @@ put-either-spec =
     tie.close
     (tie.spec
     enum-known-line
-    put-row-requires
+    put-numbers-requires
     enum-known-line-2
     put-refusal-requires
     same-length

@@ -1,6 +1,6 @@
 -- `linetext::put_few` meets its promise: the comparisons tell how many digits there are.
 -- Assumes nothing.
-use Rattle.linetext.specs.Laws.{so-number}
+use Rattle.linetext.specs.Laws.{put-number}
 use native.Mathlib.Omega.{arith}
 use Prim.Native.Nat.{_≤_}
 use borrow.Author.Needs.{needs}
@@ -14,7 +14,7 @@ same-length : tie.Need-same-length
 same-length c = search needs
 
 returns : tie.Need-returns
-returns c = so-number 0 _ (c .before .before .before .before .if1 .taken) (λ h. absurd (none h)) (omega arith) (c .before .before .put-digit .ensures)
+returns c = put-number 0 _ (c .before .before .before .before .if1 .taken) (λ h. absurd (none h)) (omega arith) (c .before .before .put-digit .ensures)
   where
     none : 1 ≤ 0 → ⊥
     none h = omega arith
@@ -26,7 +26,7 @@ same-length-2 : tie.Need-same-length-2
 same-length-2 c = search needs
 
 returns-2 : tie.Need-returns-2
-returns-2 c = so-number 1 _ (c .before .before .before .before .if2 .taken) (λ h. c .before .before .before .before .before .if1 .left) (omega arith) (c .before .before .put-two .ensures)
+returns-2 c = put-number 1 _ (c .before .before .before .before .if2 .taken) (λ h. c .before .before .before .before .before .if1 .left) (omega arith) (c .before .before .put-two .ensures)
 
 put-three-requires : tie.Need-put-three-requires
 put-three-requires c κs = search needs
@@ -35,7 +35,7 @@ same-length-3 : tie.Need-same-length-3
 same-length-3 c = search needs
 
 returns-3 : tie.Need-returns-3
-returns-3 c = so-number 2 _ (c .before .before .before .before .if3 .taken) (λ h. c .before .before .before .before .before .if2 .left) (omega arith) (c .before .before .put-three .ensures)
+returns-3 c = put-number 2 _ (c .before .before .before .before .if3 .taken) (λ h. c .before .before .before .before .before .if2 .left) (omega arith) (c .before .before .put-three .ensures)
 
 put-natural-requires : tie.Need-put-natural-requires
 put-natural-requires c κs = search needs

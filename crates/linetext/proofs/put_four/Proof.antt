@@ -1,6 +1,6 @@
--- `linetext::put_four` meets its promise: the digits before the last two, and those (`so-pair`).
+-- `linetext::put_four` meets its promise: the digits before the last two, and those (`put-pair`).
 -- Assumes nothing.
-use Rattle.linetext.specs.Laws.{so-pair}
+use Rattle.linetext.specs.Laws.{put-pair}
 use borrow.Author.Needs.{needs}
 use Rattle.linetext.proofs.put_four.Statement.{statement}
 use Rattle.linetext.proofs.put_four.Tie as tie
@@ -15,7 +15,7 @@ same-length : tie.Need-same-length
 same-length c = search needs
 
 returns : tie.Need-returns
-returns c = so-pair 2 (c .before .before .before .before .before .before .before .before .before .args .n) (c .before .before .before .before .before .before .before .before .before .pre .0) (c .before .before .before .before .before .before .put-two .ensures) (c .before .before .put-two2 .ensures)
+returns c = put-pair 2 (c .before .before .before .before .before .before .before .before .before .args .n) (c .before .before .before .before .before .before .before .before .before .pre .0) (c .before .before .before .before .before .before .put-two .ensures) (c .before .before .put-two2 .ensures)
 
 pub put-four-spec : {M : Type 1} → statement M
 put-four-spec = tie.close (tie.spec put-two-requires put-two-requires-2 same-length returns)

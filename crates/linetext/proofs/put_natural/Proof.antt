@@ -1,7 +1,7 @@
--- `linetext::put_natural` meets its promise: the digits above the last four, and those (`so-eight`).
+-- `linetext::put_natural` meets its promise: the digits above the last four, and those (`put-eight`).
 -- Assumes nothing.
 use native.Mathlib.Omega.{arith}
-use Rattle.linetext.specs.Laws.{text-as, so-eight}
+use Rattle.linetext.specs.Laws.{text-as, put-eight}
 use borrow.Author.Needs.{needs}
 use Rattle.linetext.proofs.put_natural.Statement.{statement}
 use Rattle.linetext.proofs.put_natural.Tie as tie
@@ -25,7 +25,7 @@ same-length-2 : tie.Need-same-length-2
 same-length-2 c = search needs
 
 returns-2 : tie.Need-returns-2
-returns-2 c = so-eight (c .before .before .before .before .before .before .before .before .before .if1 .left) (omega (arith, c .before .before .before .before .before .before .before .before .before .before .before .pre)) (c .before .before .before .before .before .before .put-small2 .ensures) (c .before .before .put-four .ensures)
+returns-2 c = put-eight (c .before .before .before .before .before .before .before .before .before .if1 .left) (omega (arith, c .before .before .before .before .before .before .before .before .before .before .before .pre)) (c .before .before .before .before .before .before .put-small2 .ensures) (c .before .before .put-four .ensures)
 
 put-large-requires : tie.Need-put-large-requires
 put-large-requires c κs = search needs

@@ -22,16 +22,16 @@ put-count-requires c κs = search needs
 put-count-requires-2 : tie.Need-put-count-requires-2
 put-count-requires-2 c κs = search needs
 
-put-whole-requires : tie.Need-put-whole-requires
-put-whole-requires c κs = search needs
+put-integer-requires : tie.Need-put-integer-requires
+put-integer-requires c κs = search needs
 
 same-length : tie.Need-same-length
 same-length c = search needs
 
 returns : tie.Need-returns
 returns c =
-    let last = rw (toZ-ofZ (sfits-of (c .before .before .before .struct-told .given .1 .1 .0 .1))) at (c .before .before .put-whole .ensures) in
-    refusal-line (omega arith) (c .before .before .before .before .before .before .before .before .before .before .before .before .before .before .before .before .before .before .before .before .put-byte .ensures) (c .before .before .before .before .before .before .before .before .before .before .before .before .before .before .before .before .put-byte2 .ensures) (cell-before (omega (arith, c .before .before .before .before .before .before .before .before .before .before .before .before .before .before .before .before .before .before .before .before .put-byte .ensures .place, c .before .before .before .before .before .before .before .before .before .before .before .before .before .before .before .before .before .before .before .before .put-byte .kept .0, c .before .before .before .before .before .before .before .before .before .before .before .before .before .before .before .before .put-byte2 .ensures .place, c .before .before .before .before .before .before .before .before .before .before .before .before .before .before .before .before .put-byte2 .kept .0)) (c .before .before .before .before .before .before .before .before .before .before .before .put-count .ensures) (cell-before (omega (arith, c .before .before .before .before .before .before .before .before .before .before .before .before .before .before .before .before .before .before .before .before .put-byte .ensures .place, c .before .before .before .before .before .before .before .before .before .before .before .before .before .before .before .before .before .before .before .before .put-byte .kept .0, c .before .before .before .before .before .before .before .before .before .before .before .before .before .before .before .before .put-byte2 .ensures .place, c .before .before .before .before .before .before .before .before .before .before .before .before .before .before .before .before .put-byte2 .kept .0, ends (c .before .before .before .before .before .before .before .before .before .before .before .put-count .ensures), c .before .before .before .before .before .before .before .before .before .before .before .put-count .kept .0)) (c .before .before .before .before .before .before .before .put-count2 .ensures) (last-cell last)))
+    let last = rw (toZ-ofZ (sfits-of (c .before .before .before .struct-told .given .1 .1 .0 .1))) at (c .before .before .put-integer .ensures) in
+    refusal-line (omega arith) (c .before .before .before .before .before .before .before .before .before .before .before .before .before .before .before .before .before .before .before .before .put-byte .ensures) (c .before .before .before .before .before .before .before .before .before .before .before .before .before .before .before .before .put-byte2 .ensures) (cell-before (omega (arith, c .before .before .before .before .before .before .before .before .before .before .before .before .before .before .before .before .before .before .before .before .put-byte .ensures .offset, c .before .before .before .before .before .before .before .before .before .before .before .before .before .before .before .before .before .before .before .before .put-byte .kept .0, c .before .before .before .before .before .before .before .before .before .before .before .before .before .before .before .before .put-byte2 .ensures .offset, c .before .before .before .before .before .before .before .before .before .before .before .before .before .before .before .before .put-byte2 .kept .0)) (c .before .before .before .before .before .before .before .before .before .before .before .put-count .ensures) (cell-before (omega (arith, c .before .before .before .before .before .before .before .before .before .before .before .before .before .before .before .before .before .before .before .before .put-byte .ensures .offset, c .before .before .before .before .before .before .before .before .before .before .before .before .before .before .before .before .before .before .before .before .put-byte .kept .0, c .before .before .before .before .before .before .before .before .before .before .before .before .before .before .before .before .put-byte2 .ensures .offset, c .before .before .before .before .before .before .before .before .before .before .before .before .before .before .before .before .put-byte2 .kept .0, ends (c .before .before .before .before .before .before .before .before .before .before .before .put-count .ensures), c .before .before .before .before .before .before .before .before .before .before .before .put-count .kept .0)) (c .before .before .before .before .before .before .before .put-count2 .ensures) (last-cell last)))
 
 pub put-refusal-spec : {M : Type 1} → statement M
 put-refusal-spec =
@@ -42,6 +42,6 @@ put-refusal-spec =
     cast-put-count
     put-count-requires
     put-count-requires-2
-    put-whole-requires
+    put-integer-requires
     same-length
     returns)

@@ -1,6 +1,6 @@
 -- `linetext::put_small` meets its promise: the comparisons tell how many digits there are.
 -- Assumes nothing.
-use Rattle.linetext.specs.Laws.{so-number}
+use Rattle.linetext.specs.Laws.{put-number}
 use native.Mathlib.Omega.{arith}
 use Prim.Native.Nat.{_≤_}
 use borrow.Author.Needs.{needs}
@@ -14,7 +14,7 @@ same-length : tie.Need-same-length
 same-length c = search needs
 
 returns : tie.Need-returns
-returns c = so-number 3 _ (c .before .before .before .before .before .before .pre .1) (λ h. c .before .before .before .before .if1 .taken) (omega arith) (c .before .before .put-four .ensures)
+returns c = put-number 3 _ (c .before .before .before .before .before .before .pre .1) (λ h. c .before .before .before .before .if1 .taken) (omega arith) (c .before .before .put-four .ensures)
 
 put-three-requires : tie.Need-put-three-requires
 put-three-requires c κs = search needs
@@ -23,7 +23,7 @@ same-length-2 : tie.Need-same-length-2
 same-length-2 c = search needs
 
 returns-2 : tie.Need-returns-2
-returns-2 c = so-number 2 _ (c .before .before .before .before .before .if1 .left) (λ h. c .before .before .before .before .if2 .taken) (omega arith) (c .before .before .put-three .ensures)
+returns-2 c = put-number 2 _ (c .before .before .before .before .before .if1 .left) (λ h. c .before .before .before .before .if2 .taken) (omega arith) (c .before .before .put-three .ensures)
 
 put-two-requires : tie.Need-put-two-requires
 put-two-requires c κs = search needs
@@ -32,7 +32,7 @@ same-length-3 : tie.Need-same-length-3
 same-length-3 c = search needs
 
 returns-3 : tie.Need-returns-3
-returns-3 c = so-number 1 _ (c .before .before .before .before .before .if2 .left) (λ h. c .before .before .before .before .if3 .taken) (omega arith) (c .before .before .put-two .ensures)
+returns-3 c = put-number 1 _ (c .before .before .before .before .before .if2 .left) (λ h. c .before .before .before .before .if3 .taken) (omega arith) (c .before .before .put-two .ensures)
 
 put-digit-requires : tie.Need-put-digit-requires
 put-digit-requires c κs = search needs
@@ -41,7 +41,7 @@ same-length-4 : tie.Need-same-length-4
 same-length-4 c = search needs
 
 returns-4 : tie.Need-returns-4
-returns-4 c = so-number 0 _ (c .before .before .before .before .if3 .left) (λ h. absurd (none h)) (omega arith) (c .before .before .put-digit .ensures)
+returns-4 c = put-number 0 _ (c .before .before .before .before .if3 .left) (λ h. absurd (none h)) (omega arith) (c .before .before .put-digit .ensures)
   where
     none : 1 ≤ 0 → ⊥
     none h = omega arith

@@ -1,6 +1,6 @@
--- `linetext::put_two` meets its promise: the two bytes of its word are the two digits (`so-word`).
+-- `linetext::put_two` meets its promise: the two bytes of its word are the two digits (`put-word`).
 -- Assumes nothing.
-use Rattle.linetext.specs.Laws.{so-word}
+use Rattle.linetext.specs.Laws.{put-word}
 use borrow.Author.Needs.{needs}
 use Rattle.linetext.proofs.put_two.Statement.{statement}
 use Rattle.linetext.proofs.put_two.Tie as tie
@@ -36,7 +36,7 @@ same-length : tie.Need-same-length
 same-length c = search needs
 
 returns : tie.Need-returns
-returns c = so-word (c .before .before .before .before .before .before .before .before .before .args .n) (c .before .before .before .before .before .before .before .before .before .pre .1) (c .before .before .before .before .before .before .before .before .before .pre .0) (c .before .before .before .before .before .before .put-byte .ensures) (c .before .before .put-byte2 .ensures)
+returns c = put-word (c .before .before .before .before .before .before .before .before .before .args .n) (c .before .before .before .before .before .before .before .before .before .pre .1) (c .before .before .before .before .before .before .before .before .before .pre .0) (c .before .before .before .before .before .before .put-byte .ensures) (c .before .before .put-byte2 .ensures)
 
 pub put-two-spec : {M : Type 1} → statement M
 put-two-spec =

@@ -13,14 +13,14 @@ use Rattle.linetext.proofs.put_year.Tie as tie
 is-negative-requires : tie.Need-is-negative-requires
 is-negative-requires c κs = search needs
 
-put-whole-requires : tie.Need-put-whole-requires
-put-whole-requires c κs = search needs
+put-integer-requires : tie.Need-put-integer-requires
+put-integer-requires c κs = search needs
 
 same-length : tie.Need-same-length
 same-length c = search needs
 
 returns : tie.Need-returns
-returns c = rw (toZ-ofZ (c .before .before .before .before .before .before .before .fits .x)) at (c .before .before .put-whole .ensures)
+returns c = rw (toZ-ofZ (c .before .before .before .before .before .before .before .fits .x)) at (c .before .before .put-integer .ensures)
 
 magnitude-requires : tie.Need-magnitude-requires
 magnitude-requires c κs = search needs
@@ -43,21 +43,21 @@ returns-2 c =
     whole-column (sym (m .before .if1 .left) ∙ i .is-negative .ensures ∙ ap isNegative r) (m .magnitude .ensures ∙ ap natAbs r) (a .pre)
     (text-as (c .before .before .before .before .before .before .put-small .ensures) (λ u p. p) (omega arith)) (c .before .before .put-byte .ensures)
 
-put-whole-requires-2 : tie.Need-put-whole-requires-2
-put-whole-requires-2 c κs = search needs
+put-integer-requires-2 : tie.Need-put-integer-requires-2
+put-integer-requires-2 c κs = search needs
 
 same-length-3 : tie.Need-same-length-3
 same-length-3 c = search needs
 
 returns-3 : tie.Need-returns-3
-returns-3 c = rw (toZ-ofZ (c .before .before .before .before .before .before .before .before .before .fits .x)) at (c .before .before .put-whole2 .ensures)
+returns-3 c = rw (toZ-ofZ (c .before .before .before .before .before .before .before .before .before .fits .x)) at (c .before .before .put-integer2 .ensures)
 
 pub put-year-spec : {M : Type 1} → statement M
 put-year-spec =
     tie.close
     (tie.spec
     is-negative-requires
-    put-whole-requires
+    put-integer-requires
     same-length
     returns
     magnitude-requires
@@ -65,6 +65,6 @@ put-year-spec =
     put-byte-requires
     same-length-2
     returns-2
-    put-whole-requires-2
+    put-integer-requires-2
     same-length-3
     returns-3)

@@ -1,6 +1,7 @@
--- `listing::list_block` meets its promise. The loop's invariant is `Listing`: what is still to come leads from where the block was begun. The measure is what is left of the block.
+-- `listing::list_block` meets its promise. The loop's invariant is `Reaches`: what is still to come leads from where the block was begun. The measure is what is left of the block.
 -- Assumes nothing.
-use Rattle.listing.specs.Blocks.{stand, Lists, Listing, listing-start, listing-on, turn-grows}
+use Rattle.listing.specs.Promise.{blockState, Lists}
+use Rattle.listing.specs.Laws.{Reaches, reaches-start, reaches-on, next-grows}
 use borrow.Author.Tests.{leb-true, leb-false}
 use mathlib.Core.Path.{sym, _∙_}
 use native.Mathlib.Omega.{arith}
@@ -11,25 +12,25 @@ use Rattle.listing.proofs.list_block.Statement.{statement}
 use Rattle.listing.proofs.list_block.Tie as tie
 
 abbrev Inv-loop : tie.InvT-loop
-Inv-loop block from line₀ held out₀ used p₀ line out p = Listing block (stand from line₀ held out₀ used) (stand (p .at) line (p .held) out (p .used))
+Inv-loop block from line₀ held out₀ used p₀ line out p = Reaches block (blockState from line₀ held out₀ used) (blockState (p .at) line (p .held) out (p .used))
 
 abbrev μ-loop : tie.MeasureT-loop
 μ-loop block from line₀ held out₀ used p₀ line out p = length block - p .at
 
 loop-holds : tie.Need-loop-holds Inv-loop μ-loop
-loop-holds c = listing-start _ _
+loop-holds c = reaches-start _ _
 
 has-room-requires : tie.Need-has-room-requires Inv-loop μ-loop
 has-room-requires c κs = tt
 
-turn-requires : tie.Need-turn-requires Inv-loop μ-loop
-turn-requires c κs = (c .before .before .before .before .if1 .taken, leb-true _ _ (sym (c .before .before .before .has-room .ensures) ∙ c .before .before .if2 .taken))
+list-next-requires : tie.Need-list-next-requires Inv-loop μ-loop
+list-next-requires c κs = (c .before .before .before .before .if1 .taken, leb-true _ _ (sym (c .before .before .before .has-room .ensures) ∙ c .before .before .if2 .taken))
 
 loop-less : tie.Need-loop-less Inv-loop μ-loop
-loop-less c = omega (arith, turn-grows (c .before .before .turn .ensures) (c .before .before .before .before .before .before .before .if1 .taken), c .before .before .before .before .before .before .before .if1 .taken)
+loop-less c = omega (arith, next-grows (c .before .before .list-next .ensures) (c .before .before .before .before .before .before .before .if1 .taken), c .before .before .before .before .before .before .before .if1 .taken)
 
 loop-again : tie.Need-loop-again Inv-loop μ-loop
-loop-again c = listing-on (c .before .before .before .before .before .before .before .before .before .loop .inv) (c .before .before .before .before .before .before .before .if1 .taken) (leb-true _ _ (sym (c .before .before .before .before .before .before .has-room .ensures) ∙ c .before .before .before .before .before .if2 .taken)) (c .before .before .turn .ensures) (search needs)
+loop-again c = reaches-on (c .before .before .before .before .before .before .before .before .before .loop .inv) (c .before .before .before .before .before .before .before .if1 .taken) (leb-true _ _ (sym (c .before .before .before .before .before .before .has-room .ensures) ∙ c .before .before .before .before .before .if2 .taken)) (c .before .before .list-next .ensures) (search needs)
 
 same-length : tie.Need-same-length Inv-loop μ-loop
 same-length c = c .before .before .before .before .loop .inv .long
@@ -51,7 +52,7 @@ list-block-spec =
     μ-loop
     loop-holds
     has-room-requires
-    turn-requires
+    list-next-requires
     loop-less
     loop-again
     same-length

@@ -1,6 +1,6 @@
 -- `listing::list_line` meets its promise.
 -- Assumes nothing.
-use Rattle.listing.specs.Blocks.{listed-as}
+use Rattle.listing.specs.Laws.{listed-as}
 use borrow.Author.Needs.{needs}
 use Rattle.listing.proofs.list_line.Statement.{statement}
 use Rattle.listing.proofs.list_line.Tie as tie

@@ -1,6 +1,6 @@
 -- `listing::put_held` meets its promise: with room for the longest line nothing is refused.
 -- Assumes nothing.
-use Rattle.listing.specs.Blocks.{held-wrote, held-room}
+use Rattle.listing.specs.Laws.{held-wrote, held-room}
 use borrow.Author.Needs.{needs}
 use Rattle.listing.proofs.put_held.Statement.{statement}
 use Rattle.listing.proofs.put_held.Tie as tie

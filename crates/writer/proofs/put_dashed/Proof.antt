@@ -5,7 +5,7 @@ use native.Mathlib.Omega.{arith}
 use lib.ListN.{length-set}
 use denote.Ref.{now}
 use Rattle.digits.specs.Numerals.{dash}
-use Rattle.writer.specs.Laws.{so-dashed}
+use Rattle.writer.specs.Laws.{put-dashed}
 use borrow.Author.Needs.{needs}
 use Rattle.writer.proofs.put_dashed.Statement.{statement}
 use Rattle.writer.proofs.put_dashed.Tie as tie
@@ -23,7 +23,7 @@ same-length : tie.Need-same-length
 same-length c = let a = c .before .before .before .before .before .args in c .before .before .put-digits .kept .0 ∙ length-set (now (a .buf)) (a .at) dash
 
 returns : tie.Need-returns
-returns c = so-dashed (c .before .before .before .before .before .args .k) (c .before .before .before .before .before .args .n) (c .before .before .before .before .before .pre) (c .before .before .put-digits .ensures)
+returns c = put-dashed (c .before .before .before .before .before .args .k) (c .before .before .before .before .before .args .n) (c .before .before .before .before .before .pre) (c .before .before .put-digits .ensures)
 
 pub put-dashed-spec : {M : Type 1} → statement M
 put-dashed-spec = tie.close (tie.spec slice-write-buf add-put-digits put-digits-requires same-length returns)

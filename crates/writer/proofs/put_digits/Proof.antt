@@ -3,7 +3,7 @@
 use mathlib.Core.Path.{refl, sym, ap}
 use Prim.Native.Nat.{ℕ, _+_}
 use native.Mathlib.Omega.{arith}
-use Rattle.writer.specs.Decimals.{length-digits}
+use Rattle.writer.specs.Laws.{length-digits}
 use Rattle.writer.specs.Laws.{Filling, filling-step, filling-done}
 use Rattle.writer.proofs.put_digits.Statement.{statement}
 use Rattle.writer.proofs.put_digits.Tie as tie
@@ -45,7 +45,7 @@ same-length : tie.Need-same-length Inv-loop μ-loop
 same-length c = c .before .loop .inv .len
 
 returns : tie.Need-returns Inv-loop μ-loop
-returns c = record { is = filling-done (c .before .loop .inv) (c .loop-test .left); place = ap (λ (i : ℕ). c .before .before .args .at + i) (sym (length-digits (c .before .before .args .k) (c .before .before .args .n))) }
+returns c = record { is = filling-done (c .before .loop .inv) (c .loop-test .left); offset = ap (λ (i : ℕ). c .before .before .args .at + i) (sym (length-digits (c .before .before .args .k) (c .before .before .args .n))) }
 
 pub put-digits-spec : {M : Type 1} → statement M
 put-digits-spec =

@@ -5,7 +5,7 @@ use mathlib.Core.Path.{subst}
 use mathlib.Core.Bool.{Bool}
 use lib.ListN.{length}
 use denote.Ref.{now}
-use Rattle.writer.specs.Laws.{wholeWidth, dashed-room, so-tested}
+use Rattle.writer.specs.Laws.{wholeWidth, dashed-room, put-tested}
 use borrow.Author.Needs.{needs}
 use Rattle.writer.proofs.put_signed.Statement.{statement}
 use Rattle.writer.proofs.put_signed.Tie as tie
@@ -20,13 +20,13 @@ same-length : tie.Need-same-length
 same-length c = search needs
 
 returns : tie.Need-returns
-returns c = let a = c .before .before .before .before .before .before .args in so-tested (a .k) (a .n) (c .before .before .before .before .if1 .taken) (c .before .before .put-dashed .ensures)
+returns c = let a = c .before .before .before .before .before .before .args in put-tested (a .k) (a .n) (c .before .before .before .before .if1 .taken) (c .before .before .put-dashed .ensures)
 
 same-length-2 : tie.Need-same-length-2
 same-length-2 c = search needs
 
 returns-2 : tie.Need-returns-2
-returns-2 c = let a = c .before .before .before .before .before .before .args in so-tested (a .k) (a .n) (c .before .before .before .before .if1 .left) (c .before .before .put-digits .ensures)
+returns-2 c = let a = c .before .before .before .before .before .before .args in put-tested (a .k) (a .n) (c .before .before .before .before .if1 .left) (c .before .before .put-digits .ensures)
 
 pub put-signed-spec : {M : Type 1} → statement M
 put-signed-spec =

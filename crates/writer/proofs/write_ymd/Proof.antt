@@ -65,7 +65,7 @@ put-dashed-requires c κs =
       c .before .before .before .before .before .if1 .left,
       c .before .before .before .before .before .before .signed-width .ensures .0,
       length-whole (c .before .before .before .before .before .before .before .before .before .before .before .is-negative .result) (c .before .before .before .before .before .before .before .before .before .width .result) (c .before .before .before .before .before .before .before .before .before .before .magnitude .result),
-      y .ensures .place,
+      y .ensures .offset,
       y .kept .0,
     )
 
@@ -78,10 +78,10 @@ put-dashed-requires-2 c κs =
       c .before .before .before .before .before .before .before .before .before .if1 .left,
       c .before .before .before .before .before .before .before .before .before .before .signed-width .ensures .0,
       length-whole (c .before .before .before .before .before .before .before .before .before .before .before .before .before .before .before .is-negative .result) (c .before .before .before .before .before .before .before .before .before .before .before .before .before .width .result) (c .before .before .before .before .before .before .before .before .before .before .before .before .before .before .magnitude .result),
-      y .ensures .place,
+      y .ensures .offset,
       y .kept .0,
       length-whole true (c .before .before .before .before .before .before .before .before .before .before .before .before .width2 .result) (c .before .before .before .before .before .before .before .before .before .before .before .before .before .before .before .before .before .before .args .month),
-      m .ensures .place,
+      m .ensures .offset,
       m .kept .0,
     )
 

@@ -1,6 +1,6 @@
 -- `writer::buffer::copy_text` meets its promise.
 -- Assumes nothing.
-use Rattle.writer.specs.Buffers.{copied-to}
+use Rattle.writer.specs.Laws.{copied-to}
 use Rattle.writer.specs.Promise.{no-room}
 use borrow.Author.Tests.{leb-true, leb-false}
 use mathlib.Core.Path.{sym, _∙_}

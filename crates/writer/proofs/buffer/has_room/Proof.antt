@@ -1,6 +1,6 @@
 -- `writer::buffer::has_room` meets its promise.
 -- Assumes nothing.
-use Rattle.writer.specs.Buffers.{room-test, no-room-test}
+use Rattle.writer.specs.Laws.{room-test, no-room-test}
 use Rattle.writer.proofs.buffer.has_room.Statement.{statement}
 use Rattle.writer.proofs.buffer.has_room.Tie as tie
 

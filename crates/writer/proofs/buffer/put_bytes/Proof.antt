@@ -1,6 +1,6 @@
 -- `writer::buffer::put_bytes` meets its promise. The loop's invariant is `Copying`: the first bytes of the text stand in the buffer. The measure is how many are left.
 -- Assumes nothing.
-use Rattle.writer.specs.Buffers.{Copying, copying-start, copying-on, copying-done}
+use Rattle.writer.specs.Laws.{Copying, copying-start, copying-on, copying-done}
 use native.Mathlib.Omega.{arith}
 use Prim.Native.Nat.{_-_}
 use lib.ListN.{length}

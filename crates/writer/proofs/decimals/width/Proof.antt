@@ -3,7 +3,7 @@
 use mathlib.Core.Path.{refl}
 use Prim.Native.Nat.{ℕ, _≤_, _<_, _^_}
 use native.Mathlib.Omega.{arith}
-use Rattle.writer.specs.Decimals.{Counting, counting-start, counting-step, counted}
+use Rattle.writer.specs.Laws.{Counting, counting-start, counting-step, counted}
 use Rattle.writer.proofs.decimals.width.Statement.{statement}
 use Rattle.writer.proofs.decimals.width.Tie as tie
 

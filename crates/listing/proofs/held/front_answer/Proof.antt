@@ -1,10 +1,10 @@
--- `heldline::front_answer` meets its promise.
+-- `listing::held::front_answer` meets its promise.
 -- Assumes nothing.
 use mathlib.Core.Path.{sym}
 use lib.Seq.{length-take-le}
 use borrow.Author.Needs.{needs}
-use Rattle.heldline.proofs.front_answer.Statement.{statement}
-use Rattle.heldline.proofs.front_answer.Tie as tie
+use Rattle.listing.proofs.held.front_answer.Statement.{statement}
+use Rattle.listing.proofs.held.front_answer.Tie as tie
 
 slice-aggregate-line-answer : tie.Need-slice-aggregate-line-answer
 slice-aggregate-line-answer c = sym (length-take-le _ _ (c .before .before .pre))

@@ -4,20 +4,24 @@ ghost use Prim.Native.Nat.{_≤_};
 ghost use lib.ListN.{length, take};
 ghost use Rattle.writer.specs.Promise.{Writes};
 ghost use Rattle.entry.specs.Entry.{LineAnswer};
-ghost use Rattle.heldline.specs.Held.{Fills, HeldAs, LastLine};
+ghost use Rattle.listing.specs.Promise.{AddsToLine, HeldAs, LastLine};
 use calendar::Dated;
+use entry::LONGEST_ENTRY;
 use linetext::Line;
 use writer::Written;
 use writer::buffer;
 use writer::buffer::Copied;
 
-// Adds bytes to the line that is held. For a line that is too long more than 512 are told, and what is in the buffer no longer matters.
-pub fn fill(line: &mut [u8; 512], held: usize, part: &[u8]) -> usize
-    ensures { λ r. ⌜ Fills (now (line .entry)) held (now (part .entry)) (now (line .exit)) r ⌝ }
+// What is told of a line that is too long to be held: more bytes than it can have.
+const TOO_LONG: usize = LONGEST_ENTRY + 1;
+
+// Adds bytes to the line that is held, and answers how many are held then. Of a line that is too long nothing in the buffer matters any more.
+pub fn add_to_line(line: &mut [u8; LONGEST_ENTRY], held: usize, part: &[u8]) -> usize
+    ensures { λ r. ⌜ AddsToLine (now (line .entry)) held (now (part .entry)) (now (line .exit)) r ⌝ }
 {
     match buffer::copy_text(line, held, part) {
         Copied::To(n) => n,
-        Copied::NoRoom => 513,
+        Copied::NoRoom => TOO_LONG,
     }
 }
 
@@ -28,18 +32,18 @@ fn front_answer(line: &[u8], held: usize) -> Dated
     entry::line_answer(&line[..held])
 }
 
-// Its answer as a line of the listing.
-pub fn held_line(line: &[u8; 512], held: usize) -> Line
+// The answer to it, as a line of the listing.
+pub fn held_line(line: &[u8; LONGEST_ENTRY], held: usize) -> Line
     ensures { λ l. ⌜ HeldAs (now (line .entry)) held l ⌝ }
 {
-    if held <= 512 {
+    if held <= LONGEST_ENTRY {
         return columns::line_of(front_answer(line, held));
     }
     Line::Refusal(calendar::refusal_of(20, 0))
 }
 
 // The last line of the input, which needs no newline.
-pub fn list_last(line: &[u8; 512], held: usize, out: &mut [u8], at: usize) -> Written
+pub fn list_last(line: &[u8; LONGEST_ENTRY], held: usize, out: &mut [u8], at: usize) -> Written
     ensures { λ r. ⌜ Writes (LastLine (now (line .entry)) held) (now (out .entry)) at (now (out .exit)) r ⌝ }
 {
     if 0 < held {

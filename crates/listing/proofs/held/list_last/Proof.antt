@@ -1,11 +1,11 @@
--- `heldline::list_last` meets its promise.
+-- `listing::held::list_last` meets its promise.
 -- Assumes nothing.
-use Rattle.heldline.specs.Laws.{last-held, last-none, last-left}
+use Rattle.listing.specs.Laws.{last-held, last-none, last-left}
 use borrow.Author.Tests.{leb-true, leb-false}
 use mathlib.Core.Path.{sym, _∙_}
 use borrow.Author.Needs.{needs}
-use Rattle.heldline.proofs.list_last.Statement.{statement}
-use Rattle.heldline.proofs.list_last.Tie as tie
+use Rattle.listing.proofs.held.list_last.Statement.{statement}
+use Rattle.listing.proofs.held.list_last.Tie as tie
 
 held-line-requires : tie.Need-held-line-requires
 held-line-requires c κs = search needs

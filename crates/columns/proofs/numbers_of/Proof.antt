@@ -1,12 +1,12 @@
--- `columns::row_of` meets its promise: each column is the number of that name, and the weekday that of the day number.
+-- `columns::numbers_of` meets its promise: each column is the number of that name, and the weekday that of the day number.
 -- Assumes nothing.
-use Rattle.columns.specs.Laws.{row-is}
+use Rattle.columns.specs.Laws.{numbers-are}
 use Rattle.days.specs.DayByDay.{weekday}
 use mathlib.Core.Path.{ap, _∙_}
 use mir.Facts.{toZ-ofZ}
 use borrow.Author.Needs.{needs, sfits-of}
-use Rattle.columns.proofs.row_of.Statement.{statement}
-use Rattle.columns.proofs.row_of.Tie as tie
+use Rattle.columns.proofs.numbers_of.Statement.{statement}
+use Rattle.columns.proofs.numbers_of.Tie as tie
 
 for-jdn-requires : tie.Need-for-jdn-requires
 for-jdn-requires c κs = search needs
@@ -31,13 +31,13 @@ cast-t9 c = search needs
 
 returns : tie.Need-returns
 returns c =
-    row-is (c .before .before .before .before .before .before .before .before .args .date)
+    numbers-are (c .before .before .before .before .before .before .before .before .args .date)
     (toZ-ofZ (sfits-of (c .before .before .before .before .widened .ok)) ∙ c .before .before .before .before .widened .ensures ∙ toZ-ofZ (sfits-of (c .before .before .before .before .before .struct-told2 .given .1 .1 .1 .1 .1 .1 .0 .1)))
     (toZ-ofZ (sfits-of (c .before .before .widened2 .ok)) ∙ c .before .before .widened2 .ensures ∙ toZ-ofZ (sfits-of (c .before .before .before .struct-told3 .given .1 .0 .1)))
     (c .before .before .before .before .before .before .for-jdn .ensures ∙ ap weekday (toZ-ofZ (sfits-of (c .before .before .before .before .before .before .before .struct-told .given .1 .1 .1 .1 .1 .1 .0 .1))))
 
-pub row-of-spec : {M : Type 1} → statement M
-row-of-spec =
+pub numbers-of-spec : {M : Type 1} → statement M
+numbers-of-spec =
     tie.close
     (tie.spec
     for-jdn-requires

@@ -1,9 +1,9 @@
--- `heldline::held_line` meets its promise.
+-- `listing::held::held_line` meets its promise.
 -- Assumes nothing.
-use Rattle.heldline.specs.Held.{HeldAnswer, HeldAs}
+use Rattle.listing.specs.Promise.{HeldAnswer, HeldAs}
 use borrow.Author.Needs.{needs}
-use Rattle.heldline.proofs.held_line.Statement.{statement}
-use Rattle.heldline.proofs.held_line.Tie as tie
+use Rattle.listing.proofs.held.held_line.Statement.{statement}
+use Rattle.listing.proofs.held.held_line.Tie as tie
 
 front-answer-requires : tie.Need-front-answer-requires
 front-answer-requires c κs = search needs
