@@ -7,11 +7,11 @@ use native.Mathlib.Omega.{arith}
 use lib.IntN.{ℤ, pos}
 use Rattle.whole.specs.Tests as N
 use Rattle.days.specs.DayByDay.{Label, label, Timeline, labelsIn, Borne, OfYear, Place, Is32Bit, Month, Rising, SkippedIn}
-use Rattle.days.specs.Rising.{days-one}
-use Rattle.days.specs.Spans.{Stretch}
-use Rattle.days.specs.Held.{dayBias, day}
-use Rattle.days.specs.Timelines.{rising-rises, timeline-proper, either-reckoning}
-use Rattle.days.specs.Decided.{Decided, fits-or-not, borne-or-not, skipped-or-not, year-days}
+use Rattle.days.specs.RisingLabels.{days-one}
+use Rattle.days.specs.RisingSpans.{Stretch}
+use Rattle.days.specs.BiasedDays.{dayBias, day}
+use Rattle.days.specs.RisingTimelines.{rising-rises, timeline-proper, either-reckoning}
+use Rattle.days.specs.RisingDecided.{Decided, fits-or-not, borne-or-not, skipped-or-not, year-days}
 use Rattle.calendar.specs.declared.Calendar.{Calendar}
 use Rattle.calendar.specs.declared.Dated.{Dated}
 use Rattle.calendar.specs.declared.Dated.the-variants as Dated′

@@ -8,24 +8,24 @@ use Rattle.calendar.specs.declared.Calendar.{Calendar}
 use Rattle.calendar.specs.declared.Calendar.the-variants.{Julian, Gregorian, Reforming}
 use Rattle.calendar.specs.declared.Date.{Date}
 
--- which calendar of the definition is meant
-abbrev pub meant : Calendar → D.Calendar
-meant Julian = D.Julian
-meant Gregorian = D.Gregorian
-meant (Reforming r) = D.Reforming r
+-- which calendar of the definition is definitionOf
+abbrev pub definitionOf : Calendar → D.Calendar
+definitionOf Julian = D.Julian
+definitionOf Gregorian = D.Gregorian
+definitionOf (Reforming r) = D.Reforming r
 
 abbrev pub timeline : Calendar → Timeline
-timeline c = D.timeline (meant c)
+timeline c = D.timeline (definitionOf c)
 
 -- the label of each day; which calendars are accepted, any other being made up; which labels are skipped
 abbrev pub labels : Calendar → ℤ → Label
-labels c = D.labels (meant c)
+labels c = D.labels (definitionOf c)
 
 abbrev pub Accepted : Calendar → Type 0
-Accepted c = D.Accepted (meant c)
+Accepted c = D.Accepted (definitionOf c)
 
 abbrev pub Skipped : Calendar → Label → Type 0
-Skipped c l = D.Skipped (meant c) l
+Skipped c l = D.Skipped (definitionOf c) l
 
 -- d is the record of day n in the timeline t, which its records call c: calendar, year, ordinal, month, day, day ordinal, day number
 pub record IsRecordIn (t : Timeline) (c : Calendar) (n : ℤ) (d : Date) : Type 0 where
@@ -59,4 +59,4 @@ sameStyle GregorianStyle GregorianStyle = true
 
 -- whether the label of a record is of this kind
 abbrev pub styleIs : Style → Date → Bool
-styleIs s d = sameStyle s (D.style (meant (d .calendar)) (d .jdn))
+styleIs s d = sameStyle s (D.style (definitionOf (d .calendar)) (d .jdn))

@@ -12,22 +12,22 @@ use lib.IntN.{ℤ, sucℤ, predℤ, -ℤ-one}
 use Rattle.whole.specs.Tests.{true-or-false}
 use Rattle.whole.specs.Biased.{unbias, unbias-suc, unbias-back, unbias-injective}
 use Rattle.days.specs.DayByDay.{Label, label, Is32Bit, Month, Borne, monthLength}
-use Rattle.days.specs.Rising.{once}
-use Rattle.days.specs.Steps.{month-least}
-use Rattle.days.specs.Ends.{suc-is, pred-is}
-use Rattle.days.specs.Held.{dayBias, yearBias, day, year, HeldYear}
-use Rattle.days.specs.Numbers.{daysBefore}
-use Rattle.days.specs.Calendars.{accepted-rises}
-use Rattle.days.specs.Runs.{Runs, runs-one, on-none}
-use Rattle.inner.specs.Natural.{heldDay, heldYear}
-use Rattle.inner.specs.Laws.{held-day}
+use Rattle.days.specs.RisingLabels.{once}
+use Rattle.days.specs.ReckoningSteps.{month-least}
+use Rattle.days.specs.ClosedEnds.{suc-is, pred-is}
+use Rattle.days.specs.BiasedDays.{dayBias, yearBias, day, year, BiasedYear}
+use Rattle.days.specs.ClosedNumbers.{daysBefore}
+use Rattle.days.specs.AcceptedCalendars.{accepted-rises}
+use Rattle.days.specs.ClosedRuns.{Runs, runs-one, on-none}
+use Rattle.inner.specs.Natural.{biasedDay, biasedYear}
+use Rattle.inner.specs.Laws.{biased-day}
 use Rattle.inner.specs.Spots.{spot}
 use Rattle.monthdays.specs.Promise.{OrdinalOf}
 use Rattle.monthdays.specs.declared.DayOrdinal.the-variants as DayOrdinal′
-use Rattle.changeover.specs.declared.PlainYear.{PlainYear}
-use Rattle.changeover.specs.Spots.{YearIn, ThereIn}
-use Rattle.changeover.specs.One.{year-in-one}
-use Rattle.changeover.specs.Laws.{Wholly, year-wholly, wholly-none, ordinal-sum, ordinal-some, ordinal-none}
+use Rattle.switches.specs.declared.PlainYear.{PlainYear}
+use Rattle.switches.specs.Spots.{YearIn, ThereIn}
+use Rattle.switches.specs.One.{year-in-one}
+use Rattle.switches.specs.Laws.{Wholly, year-wholly, wholly-none, ordinal-sum, ordinal-some, ordinal-none}
 use Rattle.ways.specs.Ways.{beside, Inside}
 use Rattle.ways.specs.Laws.{room-up, room-down}
 use Rattle.calendar.specs.declared.Calendar.{Calendar}
@@ -35,7 +35,7 @@ use Rattle.calendar.specs.declared.Date.{Date}
 use Rattle.calendar.specs.declared.Dated.the-variants as Dated′
 use Rattle.calendar.specs.declared.Near.{Near}
 use Rattle.calendar.specs.declared.Near.the-variants as Near′
-use Rattle.calendar.specs.Calendars.{meant, labels, IsRecord, Genuine}
+use Rattle.calendar.specs.Calendars.{definitionOf, labels, IsRecord, Genuine}
 use Rattle.calendar.specs.Rows.{passes}
 use Rattle.calendar.specs.Promise.{record-of, Next}
 use Rattle.calendar.specs.One.{whole, record-one}
@@ -46,11 +46,11 @@ use Rattle.calendar.specs.Laws.{labelled-is, labelled-room, record-plain
 -- the year of a date is wholly in one reckoning
 pub record WholeYear (d : Date) : Type 0 where
   pub switch : ℕ
-  pub held-year : ℕ
+  pub biased-year : ℕ
   pub at : PlainYear
-  pub runs : Runs (meant (d .calendar)) switch
-  pub year-is : year (heldYear held-year) ≡ d .year
-  pub year-in : YearIn switch (heldYear held-year) at
+  pub runs : Runs (definitionOf (d .calendar)) switch
+  pub year-is : year (biasedYear biased-year) ≡ d .year
+  pub year-in : YearIn switch (biasedYear biased-year) at
   pub wholly : at .whole ≡ true
 
 -- the next date of the month is found from the date alone
@@ -112,13 +112,13 @@ abbrev pub Movable : Bool → Date → Type 0
 Movable l d = OneOn l (d .ordinal) × OneOn l (d .day) × OneOn l (d .«day_ordinal») × Is32Bit (beside l (d .jdn))
 
 -- ---- A date in a year that is wholly in one reckoning, by its label
-module _ (d : Date) {r : ℕ} (y : ℕ) (runs : Runs (meant (d .calendar)) r) (h : HeldYear (heldYear y)) (e : year (heldYear y) ≡ d .year) where
+module _ (d : Date) {r : ℕ} (y : ℕ) (runs : Runs (definitionOf (d .calendar)) r) (h : BiasedYear (biasedYear y)) (e : year (biasedYear y) ≡ d .year) where
   -- the label is nowhere
-  pub none-genuine : {t : ℕ} {b : Bool} → Wholly r (heldYear y) t b → OrdinalOf b (d .month) (d .day) DayOrdinal′.Nothing → ¬ Genuine d
-  none-genuine w n g = let (i, j) = wholly-none y w (ordinal-none n) in on-none runs (heldYear y) (d .month) (d .day) e h i j .0 (d .jdn, g .is-record .label-is)
+  pub none-genuine : {t : ℕ} {b : Bool} → Wholly r (biasedYear y) t b → OrdinalOf b (d .month) (d .day) DayOrdinal′.Nothing → ¬ Genuine d
+  none-genuine w n g = let (i, j) = wholly-none y w (ordinal-none n) in on-none runs (biasedYear y) (d .month) (d .day) e h i j .0 (d .jdn, g .is-record .label-is)
 
   -- or it has an ordinal
-  module _ {t o : ℕ} {b : Bool} (w : Wholly r (heldYear y) t b) (p : OrdinalOf b (d .month) (d .day) (DayOrdinal′.At o)) where
+  module _ {t o : ℕ} {b : Bool} (w : Wholly r (biasedYear y) t b) (p : OrdinalOf b (d .month) (d .day) (DayOrdinal′.At o)) where
     abbrev here : OnSpot r (spot (t + o - 1) y o (d .month) (d .day)) × Plain r (spot (t + o - 1) y o (d .month) (d .day))
     here = whole-label y h w p
 
@@ -133,8 +133,8 @@ module _ (d : Date) {r : ℕ} (y : ℕ) (runs : Runs (meant (d .calendar)) r) (h
         same =
             let f : d .ordinal ≡ o = q .ordinal-is in
             let g : d .«day_ordinal» ≡ d .day = q .day-ordinal-is in
-            let i : year (heldYear y) ≡ d .year = e in
-            let x : whole (d .calendar) (year (heldYear y)) o (d .month) (d .day) (d .day) (d .jdn) ≡ whole (d .calendar) (d .year) (d .ordinal) (d .month) (d .day) (d .«day_ordinal») (d .jdn) = cc in
+            let i : year (biasedYear y) ≡ d .year = e in
+            let x : whole (d .calendar) (year (biasedYear y)) o (d .month) (d .day) (d .day) (d .jdn) ≡ whole (d .calendar) (d .year) (d .ordinal) (d .month) (d .day) (d .«day_ordinal») (d .jdn) = cc in
             x
 
     pub genuine-on : Genuine d → On d (t + o) o
@@ -181,8 +181,8 @@ module _ (d : Date) {r : ℕ} (y : ℕ) (runs : Runs (meant (d .calendar)) r) (h
         same =
             let f : oneOn l o ≡ oneOn l (d .ordinal) = ap (oneOn l) (sym (q .ordinal-is)) in
             let g : oneOn l (d .day) ≡ oneOn l (d .«day_ordinal») = ap (oneOn l) (sym (q .day-ordinal-is)) in
-            let i : year (heldYear y) ≡ d .year = e in
-            let x : whole (d .calendar) (year (heldYear y)) (oneOn l o) (d .month) (oneOn l (d .day)) (oneOn l (d .day)) (beside l (d .jdn))
+            let i : year (biasedYear y) ≡ d .year = e in
+            let x : whole (d .calendar) (year (biasedYear y)) (oneOn l o) (d .month) (oneOn l (d .day)) (oneOn l (d .day)) (beside l (d .jdn))
             ≡ whole (d .calendar) (d .year) (oneOn l (d .ordinal)) (d .month) (oneOn l (d .day)) (oneOn l (d .«day_ordinal»)) (beside l (d .jdn)) = cc in
             x
 
@@ -203,26 +203,26 @@ module _ (d : Date) {r : ℕ} (y : ℕ) (runs : Runs (meant (d .calendar)) r) (h
     usual-by a false n = λ g. n (genuine-on (g .0))
 
 -- a year that is not wholly in one
-pub not-whole : (d : Date) {r : ℕ} (y : ℕ) {p : PlainYear} → Runs (meant (d .calendar)) r → year (heldYear y) ≡ d .year → YearIn r (heldYear y) p → p .whole ≡ false → ¬ WholeYear d
+pub not-whole : (d : Date) {r : ℕ} (y : ℕ) {p : PlainYear} → Runs (definitionOf (d .calendar)) r → year (biasedYear y) ≡ d .year → YearIn r (biasedYear y) p → p .whole ≡ false → ¬ WholeYear d
 not-whole d {r} y {p} runs e i f w =
-    let j : YearIn r (heldYear y) (w .at) = subst₂ (λ (r k : ℕ). YearIn r k (w .at)) (runs-one (w .runs) runs) (unbias-injective yearBias (heldYear (w .held-year)) (heldYear y) (w .year-is ∙ sym e)) (w .year-in) in
-    never (sym (w .wholly) ∙ ap (λ (p : PlainYear). p .whole) (year-in-one r (heldYear y) (w .at) p j i) ∙ f)
+    let j : YearIn r (biasedYear y) (w .at) = subst₂ (λ (r k : ℕ). YearIn r k (w .at)) (runs-one (w .runs) runs) (unbias-injective yearBias (biasedYear (w .biased-year)) (biasedYear y) (w .year-is ∙ sym e)) (w .year-in) in
+    never (sym (w .wholly) ∙ ap (λ (p : PlainYear). p .whole) (year-in-one r (biasedYear y) (w .at) p j i) ∙ f)
   where
     never : _≡_ {A = Bool} true false → ⊥
     never z = let q : _≡_ {A = ℕ} 0 1 = cc in omega arith
 
 -- ---- The answer, from the parts
 -- whether a date has these numbers is told by comparing them
-pub on-by : (d : Date) (x past : ℕ) {o : ℕ} → unbias (2 ^ 31) x ≡ d .jdn → d .ordinal ≡ o → d .«day_ordinal» ≡ d .day → IsOn d past o (eqb (heldDay x + 1) past)
+pub on-by : (d : Date) (x past : ℕ) {o : ℕ} → unbias (2 ^ 31) x ≡ d .jdn → d .ordinal ≡ o → d .«day_ordinal» ≡ d .day → IsOn d past o (eqb (biasedDay x + 1) past)
 on-by d x past {o} e f g = ⊎-elim
-    (λ t. subst (IsOn d past o) (sym t) (record { ordinal-is = f; day-ordinal-is = g; day-is = ap (λ (k : ℕ). day (k - 1)) (sym (eqb-true (heldDay x + 1) past t)) ∙ ap day (back (heldDay x)) ∙ held-day x ∙ e }))
-    (λ t. subst (IsOn d past o) (sym t) (λ q. eqb-false (heldDay x + 1) past t (up (unbias-injective dayBias (past - 1) (heldDay x) (q .day-is ∙ sym (held-day x ∙ e))))))
-    (true-or-false (eqb (heldDay x + 1) past))
+    (λ t. subst (IsOn d past o) (sym t) (record { ordinal-is = f; day-ordinal-is = g; day-is = ap (λ (k : ℕ). day (k - 1)) (sym (eqb-true (biasedDay x + 1) past t)) ∙ ap day (back (biasedDay x)) ∙ biased-day x ∙ e }))
+    (λ t. subst (IsOn d past o) (sym t) (λ q. eqb-false (biasedDay x + 1) past t (up (unbias-injective dayBias (past - 1) (biasedDay x) (q .day-is ∙ sym (biased-day x ∙ e))))))
+    (true-or-false (eqb (biasedDay x + 1) past))
   where
     back : (k : ℕ) → k + 1 - 1 ≡ k
     back k = omega arith
 
-    up : past - 1 ≡ heldDay x → heldDay x + 1 ≡ past
+    up : past - 1 ≡ biasedDay x → biasedDay x + 1 ≡ past
     up e = omega arith
 
 pub usual-movable : (l : Bool) {d : Date} → Usual d → Inside l (d .day) → Is32Bit (beside l (d .jdn)) → Movable l d

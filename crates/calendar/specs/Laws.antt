@@ -12,33 +12,33 @@ use Rattle.whole.specs.Tests.{lt-or-ge}
 use Rattle.whole.specs.Biased.{unbias}
 use Rattle.days.specs.DayByDay as D
 use Rattle.days.specs.DayByDay.{AcceptedReformation, Label, label, Borne, OfYear, Place, Ordinal, DayOrdinal, Is32Bit, Style, JulianStyle, GregorianStyle, style, Month}
-use Rattle.days.specs.Rising.{days-one, nth-within}
-use Rattle.days.specs.Held.{dayBias, day, year, HeldYear}
-use Rattle.days.specs.Year.{yearLength, year-most}
-use Rattle.days.specs.Spans.{Stretch}
-use Rattle.days.specs.Starts.{Spot}
-use Rattle.days.specs.Julian as J
-use Rattle.days.specs.Gregorian as G
-use Rattle.days.specs.Numbers.{daysBefore, few-before}
-use Rattle.days.specs.Reformations.{all-three}
-use Rattle.days.specs.Table.{accepts-only, fits-held}
-use Rattle.days.specs.Calendars.{labels-proper, skipped-nowhere}
-use Rattle.days.specs.Runs.{Runs, reforming-runs, firstDay, first-cases, first-julian, yearFirst, monthFirst, julianMonth, gregorianMonth, year-plain, month-plain, year-stretch, ordinal-at, day-ordinal-at, on-old, on-new, in-gap, on-none}
-use Rattle.inner.specs.Natural.{heldDay, heldYear, Lowers, within, beyond}
+use Rattle.days.specs.RisingLabels.{days-one, nth-within}
+use Rattle.days.specs.BiasedDays.{dayBias, day, year, BiasedYear}
+use Rattle.days.specs.ClosedYear.{yearLength, year-most}
+use Rattle.days.specs.RisingSpans.{Stretch}
+use Rattle.days.specs.ClosedStarts.{Spot}
+use Rattle.days.specs.ClosedJulian as J
+use Rattle.days.specs.ClosedGregorian as G
+use Rattle.days.specs.ClosedNumbers.{daysBefore, few-before}
+use Rattle.days.specs.ReformationRules.{all-three}
+use Rattle.days.specs.ReformationTable.{accepts-only, fits-biased}
+use Rattle.days.specs.AcceptedCalendars.{labels-proper, skipped-nowhere}
+use Rattle.days.specs.ClosedRuns.{Runs, reforming-runs, firstDay, first-cases, first-julian, yearFirst, monthFirst, julianMonth, gregorianMonth, year-plain, month-plain, year-stretch, ordinal-at, day-ordinal-at, on-old, on-new, in-gap, on-none}
+use Rattle.inner.specs.Natural.{biasedDay, biasedYear, Lowers, within, beyond}
 use Rattle.monthdays.specs.Promise.{MonthDayAt, OrdinalOf}
-use Rattle.inner.specs.Laws.{held-day, julian-alone, gregorian-alone, spot-of-year}
+use Rattle.inner.specs.Laws.{biased-day, julian-alone, gregorian-alone, spot-of-year}
 use Rattle.monthdays.specs.Laws.{month-day-in}
 use Rattle.inner.specs.declared.DayNumber.{DayNumber}
 use Rattle.inner.specs.declared.DayNumber.the-variants as DayNumber′
 use Rattle.monthdays.specs.declared.DayOrdinal.the-variants as DayOrdinal′
 use Rattle.fields.specs.declared.Fields.{Fields}
 use Rattle.fields.specs.Same.{IsSame}
-use Rattle.reformation.specs.Judging.{Judges, accepts-held, refuses-with-1, refuses-with-2, refused-not}
-use Rattle.reformation.specs.declared.Judgement.the-variants as Judgement′
+use Rattle.switches.specs.Judging.{Judges, accepts-biased, refuses-with-1, refuses-with-2, refused-not}
+use Rattle.switches.specs.declared.reformation.Judgement.the-variants as Judgement′
 use Rattle.calendar.specs.declared.Calendar.{Calendar}
 use Rattle.calendar.specs.declared.Calendar.the-variants.{Reforming}
 use Rattle.calendar.specs.declared.Date.{Date}
-use Rattle.calendar.specs.declared.Reformed.the-variants as Reformed′
+use Rattle.calendar.specs.declared.Chosen.the-variants as Chosen′
 use Rattle.calendar.specs.declared.Dated.{Dated}
 use Rattle.calendar.specs.declared.Dated.the-variants as Dated′
 use Rattle.calendar.specs.declared.Switch.the-variants as Switch′
@@ -46,21 +46,21 @@ use Rattle.calendar.specs.declared.Usual.{Usual}
 use Rattle.calendar.specs.declared.Usual.the-variants as Usual′
 use Rattle.inner.specs.declared.Spot as S
 use Rattle.inner.specs.Spots.{At, spot, at-number, at-from, at-few}
-use Rattle.changeover.specs.declared.Found.the-variants as Found′
-use Rattle.changeover.specs.Spots.{YearSpan, ThereIn, Finds, finds-old, finds-new, finds-gap, finds-none}
-use Rattle.changeover.specs.Laws.{starts-close, Wholly, wholly-old, wholly-new, wholly-none, wholly-days, ordinal-sum, ordinal-none, read-at}
+use Rattle.switches.specs.declared.Found.the-variants as Found′
+use Rattle.switches.specs.Spots.{YearSpan, ThereIn, Finds, finds-old, finds-new, finds-gap, finds-none}
+use Rattle.switches.specs.Laws.{starts-close, Wholly, wholly-old, wholly-new, wholly-none, wholly-days, ordinal-sum, ordinal-none, read-at}
 use Rattle.refusals.specs.declared.Refusal.{Refusal}
 use Rattle.ways.specs.declared.Neighbour.the-variants as Neighbour′
 use Rattle.ways.specs.Ways.{IsNeighbour, there, nowhere}
-use Rattle.calendar.specs.Calendars.{meant, labels, Accepted, IsRecord, Genuine, sameStyle, styleIs}
+use Rattle.calendar.specs.Calendars.{definitionOf, labels, Accepted, IsRecord, Genuine, sameStyle, styleIs}
 use Rattle.calendar.specs.Rows.{refuses, passes}
 use Rattle.calendar.specs.Promise.{refused, refusedReformation, Reforms, judged, RecordOf, record-of, Given, ByLabel, on-label, ByOrdinal, OffYear, on-ordinal, AtJdn, AtYmd, AtOrdinal, IsGenuine, Next, ConvertsTo}
 use Rattle.calendar.specs.One.{whole, record-one}
-use Rattle.calendar.specs.Natural.{SwitchIs, switches-at, no-calendar, InYear, LabelledAt, old, new, OnSpot, OfALabel, plainRecord, Plain, SpotAt, UsualLabel, UsualOrdinal, OnUsualSpot, InTurning, fieldsOf}
+use Rattle.calendar.specs.Natural.{SwitchIs, switches-at, no-calendar, DayInYear, LabelledAt, old, new, OnSpot, OfALabel, plainRecord, Plain, SpotAt, UsualLabel, UsualOrdinal, OnUsualSpot, InTurning, fieldsOf}
 
 -- ---- Where a calendar goes over
 pub switch-accepted : {r : ℤ} {k : ℕ} → Judges r (Judgement′.Accepted k) → SwitchIs (Reforming r) (Switch′.At k)
-switch-accepted {k = k} (accepts-held (all-three a) e) = subst (λ (r : ℤ). SwitchIs (Reforming r) (Switch′.At k)) e (switches-at (reforming-runs k (subst AcceptedReformation (sym e) a)))
+switch-accepted {k = k} (accepts-biased (all-three a) e) = subst (λ (r : ℤ). SwitchIs (Reforming r) (Switch′.At k)) e (switches-at (reforming-runs k (subst AcceptedReformation (sym e) a)))
 
 pub switch-refused : {r : ℤ} {n : ℕ} → Judges r (Judgement′.Refused n) → SwitchIs (Reforming r) Switch′.MadeUp
 switch-refused {r} j = no-calendar not
@@ -70,20 +70,20 @@ switch-refused {r} j = no-calendar not
 
 -- ---- A day in its reckoning
 -- its ordinal, month and day by arithmetic
-pub at-spot : {leapAt : ℕ → Bool} {start : ℕ → ℕ} {k y m d o : ℕ} → HeldYear y → Spot leapAt start k y o → MonthDayAt (leapAt y) o m d → At leapAt start k y m d o
+pub at-spot : {leapAt : ℕ → Bool} {start : ℕ → ℕ} {k y m d o : ℕ} → BiasedYear y → Spot leapAt start k y o → MonthDayAt (leapAt y) o m d → At leapAt start k y m d o
 at-spot h p q =
     let (v, f, t) = month-day-in (p .from) (p .to) q in
-    record { held = h; there = (v .0, v .1, f, t); ordinal-is = q .day-is; adds = p .adds }
+    record { biased = h; there = (v .0, v .1, f, t); ordinal-is = q .day-is; adds = p .adds }
 
 -- ---- A day in its calendar
-module _ (c : Calendar) {r : ℕ} (runs : Runs (meant c) r) {k y m d o : ℕ} where
+module _ (c : Calendar) {r : ℕ} (runs : Runs (definitionOf c) r) {k y m d o : ℕ} where
   pub labelled-is : LabelledAt r k y m d o → labels c (day k) ≡ label (year y) m d
-  labelled-is (old h a) = subst (λ (n : ℕ). labels c (day n) ≡ label (year y) m d) (at-number a) (on-old runs y m d refl (a .held) (a .there) (subst (λ (n : ℕ). n < r) (sym (at-number a)) h))
-  labelled-is (new h a) = subst (λ (n : ℕ). labels c (day n) ≡ label (year y) m d) (at-number a) (on-new runs y m d refl (a .held) (a .there) (subst (λ (n : ℕ). r ≤ n) (sym (at-number a)) h))
+  labelled-is (old h a) = subst (λ (n : ℕ). labels c (day n) ≡ label (year y) m d) (at-number a) (on-old runs y m d refl (a .biased) (a .there) (subst (λ (n : ℕ). n < r) (sym (at-number a)) h))
+  labelled-is (new h a) = subst (λ (n : ℕ). labels c (day n) ≡ label (year y) m d) (at-number a) (on-new runs y m d refl (a .biased) (a .there) (subst (λ (n : ℕ). r ≤ n) (sym (at-number a)) h))
 
-  pub labelled-held : LabelledAt r k y m d o → HeldYear y
-  labelled-held (old h a) = a .held
-  labelled-held (new h a) = a .held
+  pub labelled-biased : LabelledAt r k y m d o → BiasedYear y
+  labelled-biased (old h a) = a .biased
+  labelled-biased (new h a) = a .biased
 
   pub labelled-month : LabelledAt r k y m d o → Month m
   labelled-month (old h a) = (a .there .0, a .there .1)
@@ -97,8 +97,8 @@ module _ (c : Calendar) {r : ℕ} (runs : Runs (meant c) r) {k y m d o : ℕ} wh
       record {
         calendar-is = refl;
         label-is = ap (labels c) (sym e) ∙ labelled-is l ∙ ap (λ (z : ℤ). label z m d) f;
-        ordinal-is = subst₂ (Ordinal (labels c)) e g (ordinal-at runs k y m d (labelled-held l) (labelled-is l));
-        day-ordinal-is = subst₂ (DayOrdinal (labels c)) e h (day-ordinal-at runs k y m d (labelled-held l) (labelled-is l) (v .0) (v .1));
+        ordinal-is = subst₂ (Ordinal (labels c)) e g (ordinal-at runs k y m d (labelled-biased l) (labelled-is l));
+        day-ordinal-is = subst₂ (DayOrdinal (labels c)) e h (day-ordinal-at runs k y m d (labelled-biased l) (labelled-is l) (v .0) (v .1));
         day-is = refl;
       }
 
@@ -111,7 +111,7 @@ module _ (c : Calendar) {r : ℕ} (runs : Runs (meant c) r) {k y m d o : ℕ} wh
 
       rest : (s : ℕ) → s + o ≡ k + 1 → k + 1 - s ≡ o
       rest s e = omega arith
-  plain-ordinal (new h a) p = ap (λ (n : ℕ). k + 1 - n) (year-plain runs y (a .held) (first (a .adds) (p h))) ∙ rest (G.start y) (a .adds)
+  plain-ordinal (new h a) p = ap (λ (n : ℕ). k + 1 - n) (year-plain runs y (a .biased) (first (a .adds) (p h))) ∙ rest (G.start y) (a .adds)
     where
       first : {s : ℕ} → s + o ≡ k + 1 → r + o ≤ k + 1 → r ≤ s
       first e f = omega arith
@@ -129,7 +129,7 @@ module _ (c : Calendar) {r : ℕ} (runs : Runs (meant c) r) {k y m d o : ℕ} wh
       rest : (s b : ℕ) → s + o ≡ k + 1 → b + d ≡ o → k + 1 - (s + b) ≡ d
       rest s b e f = omega arith
   plain-day-ordinal (new h a) p =
-      ap (λ (n : ℕ). k + 1 - n) (month-plain runs y (a .held) m (a .there .0) (a .there .1) (first (G.start y) (daysBefore (G.leapAt y) m) (a .adds) (p h))) ∙ rest (G.start y) (daysBefore (G.leapAt y) m) (a .adds) (a .ordinal-is)
+      ap (λ (n : ℕ). k + 1 - n) (month-plain runs y (a .biased) m (a .there .0) (a .there .1) (first (G.start y) (daysBefore (G.leapAt y) m) (a .adds) (p h))) ∙ rest (G.start y) (daysBefore (G.leapAt y) m) (a .adds) (a .ordinal-is)
     where
       first : (s b : ℕ) → s + o ≡ k + 1 → r + o ≤ k + 1 → r ≤ s + b
       first s b e f = omega arith
@@ -168,10 +168,10 @@ module _ {k y m d o : ℕ} (a : At G.leapAt G.start k y m d o) where
   day-in-month = omega (arith, at-few a, a .ordinal-is)
 
   pub year-close : G.start y ≤ J.start y + 30_000_366
-  year-close = omega (arith, starts-close y (a .held .to))
+  year-close = omega (arith, starts-close y (a .biased .to))
 
   pub month-close : gregorianMonth y m ≤ julianMonth y m + 30_000_366
-  month-close = sum (J.start y) (G.start y) (daysBefore (J.leapAt y) m) (daysBefore (G.leapAt y) m) (starts-close y (a .held .to)) (few-before (G.leapAt y) m (a .there .0) (a .there .1))
+  month-close = sum (J.start y) (G.start y) (daysBefore (J.leapAt y) m) (daysBefore (G.leapAt y) m) (starts-close y (a .biased .to)) (few-before (G.leapAt y) m (a .there .0) (a .there .1))
     where
       sum : (a b d e : ℕ) → b ≤ a + 30_000_000 → e ≤ 366 → b + e ≤ a + d + 30_000_366
       sum a b d e h k = omega arith
@@ -185,39 +185,39 @@ labelled-new {r} {k} (old h a) g = absurd (never h g)
 labelled-new (new h a) g = a
 
 -- ---- The rows of a label
-module _ (c : Calendar) {r : ℕ} (runs : Runs (meant c) r) {y m d : ℕ} {z : ℤ} (h : HeldYear (heldYear y)) (e : year (heldYear y) ≡ z) where
+module _ (c : Calendar) {r : ℕ} (runs : Runs (definitionOf c) r) {y m d : ℕ} {z : ℤ} (h : BiasedYear (biasedYear y)) (e : year (biasedYear y) ≡ z) where
   pub found-spot : {s : S.Spot} → Finds r y m d (Found′.At s) → OnSpot r s
   found-spot (finds-old g a) = old g a
   found-spot (finds-new g a n) = new g a
 
-  found-year : {s : S.Spot} → Finds r y m d (Found′.At s) → year (heldYear (s .year)) ≡ z
+  found-year : {s : S.Spot} → Finds r y m d (Found′.At s) → year (biasedYear (s .year)) ≡ z
   found-year (finds-old g a) = e
   found-year (finds-new g a n) = e
 
-  pub found-label : {s : S.Spot} → Finds r y m d (Found′.At s) → labels c (day (s .held)) ≡ label z m d
+  pub found-label : {s : S.Spot} → Finds r y m d (Found′.At s) → labels c (day (s .biased)) ≡ label z m d
   found-label (finds-old g a) = labelled-is c runs (old g a) ∙ ap (λ (z : ℤ). label z m d) e
   found-label (finds-new g a n) = labelled-is c runs (new g a) ∙ ap (λ (z : ℤ). label z m d) e
 
   -- 4, 5, and then the rows below, in every call that is asked about a label
   pub label-row : {A : Type 0} (refused : Refusal → A) {Below : A → Type 0} {s : S.Spot} {a : A} → Finds r y m d (Found′.At s) → Below a → OfALabel c z m d refused Below a
   label-row refused {s = s} f b =
-      let l : labels c (day (s .held)) ≡ label z m d = found-label f in
-      passes (λ n. n .0 (day (s .held), l)) (passes (λ i. skipped-nowhere (runs .accepted) i (day (s .held), l)) b)
+      let l : labels c (day (s .biased)) ≡ label z m d = found-label f in
+      passes (λ n. n .0 (day (s .biased), l)) (passes (λ i. skipped-nowhere (runs .accepted) i (day (s .biased), l)) b)
 
-  pub found-row : {s : S.Spot} {a : Dated} → Finds r y m d (Found′.At s) → Given c (year (heldYear (s .year))) (day (s .held)) a → ByLabel c z m d a
-  found-row {s} {a} f g = label-row Dated′.Refused f (on-label (found-label f) (subst (λ (z : ℤ). Given c z (day (s .held)) a) (found-year f) g))
+  pub found-row : {s : S.Spot} {a : Dated} → Finds r y m d (Found′.At s) → Given c (year (biasedYear (s .year))) (day (s .biased)) a → ByLabel c z m d a
+  found-row {s} {a} f g = label-row Dated′.Refused f (on-label (found-label f) (subst (λ (z : ℤ). Given c z (day (s .biased)) a) (found-year f) g))
 
   pub refused-row : {A : Type 0} (refused : Refusal → A) {Below : A → Type 0} {f : Refusal} → Finds r y m d (Found′.Refused f) → OfALabel c z m d refused Below (refused f)
-  refused-row refused (finds-gap t u v) = let s = in-gap runs (heldYear y) m d e h t u v in passes (λ n. n .1 s) (refuses s)
-  refused-row refused (finds-none n l) = refuses (on-none runs (heldYear y) m d e h n l)
+  refused-row refused (finds-gap t u v) = let s = in-gap runs (biasedYear y) m d e h t u v in passes (λ n. n .1 s) (refuses s)
+  refused-row refused (finds-none n l) = refuses (on-none runs (biasedYear y) m d e h n l)
 
   pub refused-nowhere : {f : Refusal} → Finds r y m d (Found′.Refused f) → ¬ Borne (labels c) (label z m d)
-  refused-nowhere (finds-gap t u v) = skipped-nowhere (runs .accepted) (in-gap runs (heldYear y) m d e h t u v)
-  refused-nowhere (finds-none n l) = on-none runs (heldYear y) m d e h n l .0
+  refused-nowhere (finds-gap t u v) = skipped-nowhere (runs .accepted) (in-gap runs (biasedYear y) m d e h t u v)
+  refused-nowhere (finds-none n l) = on-none runs (biasedYear y) m d e h n l .0
 
 -- ---- A day that is found, in 32 bits
-pub given-held : (c : Calendar) {k : ℕ} {n z : ℤ} {d : Date} → Lowers k (DayNumber′.Day n) → IsRecord c n d → Given c z (day k) (Dated′.Date d)
-given-held c (within w) i = passes (fits-held w) (record-of i)
+pub given-biased : (c : Calendar) {k : ℕ} {n z : ℤ} {d : Date} → Lowers k (DayNumber′.Day n) → IsRecord c n d → Given c z (day k) (Dated′.Date d)
+given-biased c (within w) i = passes (fits-biased w) (record-of i)
 
 pub lowered-day : {k : ℕ} {n : ℤ} → Lowers k (DayNumber′.Day n) → day k ≡ n
 lowered-day (within w) = refl
@@ -230,13 +230,13 @@ given-none e (within w) = let z : _≡_ {A = ℕ} 0 1 = cc in omega arith
 given-none e (beyond b) = let z : _≡_ {A = ℕ} 0 1 = cc in omega arith
 
 -- ---- The rows of an ordinal
-module _ (c : Calendar) {r : ℕ} (runs : Runs (meant c) r) (y o : ℕ) {a b : ℕ} {z : ℤ} (h : HeldYear (heldYear y)) (e : year (heldYear y) ≡ z) (s : YearSpan r (heldYear y) a b) where
-  abbrev days-of : Stretch (labels c) (OfYear (year (heldYear y))) dayBias (yearFirst r (heldYear y)) (yearFirst r (heldYear y + 1))
-  days-of = year-stretch runs (heldYear y) h
+module _ (c : Calendar) {r : ℕ} (runs : Runs (definitionOf c) r) (y o : ℕ) {a b : ℕ} {z : ℤ} (h : BiasedYear (biasedYear y)) (e : year (biasedYear y) ≡ z) (s : YearSpan r (biasedYear y) a b) where
+  abbrev days-of : Stretch (labels c) (OfYear (year (biasedYear y))) dayBias (yearFirst r (biasedYear y)) (yearFirst r (biasedYear y + 1))
+  days-of = year-stretch runs (biasedYear y) h
 
   off-by : ((o ≡ 0) ⊎ (b < a + o)) → ByOrdinal c z o (refused 6 (pos o))
   off-by n = subst (λ (z : ℤ). ByOrdinal c z o (refused 6 (pos o))) e
-      (refuses (yearFirst r (heldYear y + 1) - yearFirst r (heldYear y), days-of .days, ⊎-elim inl (λ i. inr (omega (arith, s .first-is, s .past-is, days-of .ordered))) n))
+      (refuses (yearFirst r (biasedYear y + 1) - yearFirst r (biasedYear y), days-of .days, ⊎-elim inl (λ i. inr (omega (arith, s .first-is, s .past-is, days-of .ordered))) n))
 
   pub off-low : o < 1 → ByOrdinal c z o (refused 6 (pos o))
   off-low n = off-by (inl (omega arith))
@@ -245,40 +245,40 @@ module _ (c : Calendar) {r : ℕ} (runs : Runs (meant c) r) (y o : ℕ) {a b : �
   off-high n = off-by (inr n)
 
   module _ (u : 1 ≤ o) (v : a + o ≤ b) where
-    pub in-year-at : InYear c r y (a + o - 1)
+    pub in-year-at : DayInYear c r y (a + o - 1)
     in-year-at = record {
       runs = runs;
-      year-held = h;
+      year-biased = h;
       of-year = days-of .inside (a + o - 1) (omega (arith, s .first-is)) (omega (arith, s .past-is));
       room = omega (arith, s .past-room);
     }
 
-    pub ordinal-row : {t : Dated} → Given c (year (heldYear y)) (day (a + o - 1)) t → ByOrdinal c z o t
+    pub ordinal-row : {t : Dated} → Given c (year (biasedYear y)) (day (a + o - 1)) t → ByOrdinal c z o t
     ordinal-row {t} q = subst (λ (z : ℤ). ByOrdinal c z o t) e (passes not-off (on-ordinal (in-year-at .of-year) place q))
       where
-        place : Place (λ d. OfYear (year (heldYear y)) (labels c d)) (day (a + o - 1)) o
+        place : Place (λ d. OfYear (year (biasedYear y)) (labels c d)) (day (a + o - 1)) o
         place =
-            let w : a + o - 1 + 1 - yearFirst r (heldYear y) ≡ o = omega (arith, s .first-is) in
-            subst (Place (λ d. OfYear (year (heldYear y)) (labels c d)) (day (a + o - 1))) w (days-of .here (a + o - 1) (in-year-at .of-year) .2)
+            let w : a + o - 1 + 1 - yearFirst r (biasedYear y) ≡ o = omega (arith, s .first-is) in
+            subst (Place (λ d. OfYear (year (biasedYear y)) (labels c d)) (day (a + o - 1))) w (days-of .here (a + o - 1) (in-year-at .of-year) .2)
 
-        not-off : ¬ OffYear c (year (heldYear y)) o
+        not-off : ¬ OffYear c (year (biasedYear y)) o
         not-off (t, i, n) =
-            let w : t ≡ yearFirst r (heldYear y + 1) - yearFirst r (heldYear y) = days-one i (days-of .days) in
+            let w : t ≡ yearFirst r (biasedYear y + 1) - yearFirst r (biasedYear y) = days-one i (days-of .days) in
             ⊎-elim (λ q. never-low q) (λ q. never-high t w q) n
           where
             never-low : o ≡ 0 → ⊥
             never-low q = omega arith
 
-            never-high : (t : ℕ) → t ≡ yearFirst r (heldYear y + 1) - yearFirst r (heldYear y) → t < o → ⊥
+            never-high : (t : ℕ) → t ≡ yearFirst r (biasedYear y + 1) - yearFirst r (biasedYear y) → t < o → ⊥
             never-high t w q = omega (arith, s .first-is, s .past-is)
 
 -- the spot of a day of a year
-module _ (c : Calendar) {r y k : ℕ} (p : InYear c r y k) where
-  pub old-ordinal : k < r → Spot J.leapAt J.start k (heldYear y) (k + 1 - J.start (heldYear y))
-  old-ordinal n = spot-of-year julian-alone (p .year-held) (subst (OfYear (year (heldYear y))) (p .runs .below k n (p .room) .0) (p .of-year))
+module _ (c : Calendar) {r y k : ℕ} (p : DayInYear c r y k) where
+  pub old-ordinal : k < r → Spot J.leapAt J.start k (biasedYear y) (k + 1 - J.start (biasedYear y))
+  old-ordinal n = spot-of-year julian-alone (p .year-biased) (subst (OfYear (year (biasedYear y))) (p .runs .below k n (p .room) .0) (p .of-year))
 
-  pub new-ordinal : r ≤ k → Spot G.leapAt G.start k (heldYear y) (k + 1 - G.start (heldYear y))
-  new-ordinal n = spot-of-year gregorian-alone (p .year-held) (subst (OfYear (year (heldYear y))) (p .runs .above k n (p .room) .0) (p .of-year))
+  pub new-ordinal : r ≤ k → Spot G.leapAt G.start k (biasedYear y) (k + 1 - G.start (biasedYear y))
+  new-ordinal n = spot-of-year gregorian-alone (p .year-biased) (subst (OfYear (year (biasedYear y))) (p .runs .above k n (p .room) .0) (p .of-year))
 
 -- what an ordinal in its own reckoning asks of the machine
 pub spot-fits : {leapAt : ℕ → Bool} {start : ℕ → ℕ} {k y o : ℕ} → Spot leapAt start k y o → (o < 2 ^ 32) × (start y ≤ k + 1)
@@ -288,18 +288,18 @@ spot-fits {leapAt} {start} {k} {y} {o} p = (omega (arith, p .to, year-most (leap
     room s e = omega arith
 
 -- a spot that was made of an ordinal is on its day
-pub spot-made : {leapAt : ℕ → Bool} {start : ℕ → ℕ} {k y o : ℕ} {b : Bool} {s : S.Spot} → HeldYear (heldYear y) → Spot leapAt start k (heldYear y) o → b ≡ leapAt (heldYear y) → SpotAt k y o b s
-    → At leapAt start k (heldYear y) (s .month) (s .day) o
+pub spot-made : {leapAt : ℕ → Bool} {start : ℕ → ℕ} {k y o : ℕ} {b : Bool} {s : S.Spot} → BiasedYear (biasedYear y) → Spot leapAt start k (biasedYear y) o → b ≡ leapAt (biasedYear y) → SpotAt k y o b s
+    → At leapAt start k (biasedYear y) (s .month) (s .day) o
 spot-made {leapAt} {o = o} {s = s} h p e q = at-spot h p (subst (λ (b : Bool). MonthDayAt b o (s .month) (s .day)) e (q .month-day))
 
-pub spot-old : {r k y o : ℕ} {b : Bool} {s : S.Spot} → HeldYear (heldYear y) → k < r → Spot J.leapAt J.start k (heldYear y) o → b ≡ J.leapAt (heldYear y) → SpotAt k y o b s → OnSpot r s
+pub spot-old : {r k y o : ℕ} {b : Bool} {s : S.Spot} → BiasedYear (biasedYear y) → k < r → Spot J.leapAt J.start k (biasedYear y) o → b ≡ J.leapAt (biasedYear y) → SpotAt k y o b s → OnSpot r s
 spot-old {r} h g p e q = subst (OnSpot r) (sym (q .is)) (old g (spot-made h p e q))
 
-pub spot-new : {r k y o : ℕ} {b : Bool} {s : S.Spot} → HeldYear (heldYear y) → r ≤ k → Spot G.leapAt G.start k (heldYear y) o → b ≡ G.leapAt (heldYear y) → SpotAt k y o b s → OnSpot r s
+pub spot-new : {r k y o : ℕ} {b : Bool} {s : S.Spot} → BiasedYear (biasedYear y) → r ≤ k → Spot G.leapAt G.start k (biasedYear y) o → b ≡ G.leapAt (biasedYear y) → SpotAt k y o b s → OnSpot r s
 spot-new {r} h g p e q = subst (OnSpot r) (sym (q .is)) (new g (spot-made h p e q))
 
 -- ---- What a switch says
-pub switch-runs : (c : Calendar) {r : ℕ} → SwitchIs c (Switch′.At r) → Runs (meant c) r
+pub switch-runs : (c : Calendar) {r : ℕ} → SwitchIs c (Switch′.At r) → Runs (definitionOf c) r
 switch-runs c (switches-at p) = p
 
 pub switch-made-up : (c : Calendar) → SwitchIs c Switch′.MadeUp → ¬ Accepted c
@@ -313,8 +313,8 @@ julian-month-is {leap} y {m} {o} {t} e f p = sum (daysBefore leap m) (ordinal-su
     sum b q = omega arith
 
 -- ---- Reformations
-pub reforms-accepted : {r : ℤ} {k : ℕ} → Judges r (Judgement′.Accepted k) → Reforms r (Reformed′.Calendar (Reforming r))
-reforms-accepted (accepts-held j e) = judged j
+pub reforms-accepted : {r : ℤ} {k : ℕ} → Judges r (Judgement′.Accepted k) → Reforms r (Chosen′.Calendar (Reforming r))
+reforms-accepted (accepts-biased j e) = judged j
 
 pub reforms-refused : {r : ℤ} {n : ℕ} → Judges r (Judgement′.Refused n) → Reforms r (refusedReformation n r)
 reforms-refused (refuses-with-1 j) = judged j
@@ -324,10 +324,10 @@ reforms-refused (refuses-with-2 j) = judged j
 pub labelled-room : {r k y m d o : ℕ} → LabelledAt r k y m d o → (k < 2_000_000_000_000) × (1 ≤ o) × (o ≤ 366) × (o ≤ k + 1) × (d ≤ k + 1)
 labelled-room {k = k} {y} {d = d} {o} (old h a) =
     let n : o ≤ 366 = at-few a in
-    (omega (arith, a .adds, a .held .to), at-from a, n, omega (arith, a .adds), omega (arith, a .adds, a .ordinal-is))
+    (omega (arith, a .adds, a .biased .to), at-from a, n, omega (arith, a .adds), omega (arith, a .adds, a .ordinal-is))
 labelled-room {k = k} {y} {d = d} {o} (new h a) =
     let n : o ≤ 366 = at-few a in
-    (room (G.start y) (few y (a .held .to)) (a .adds), at-from a, n, part (G.start y) (a .adds), omega (arith, part (G.start y) (a .adds), a .ordinal-is))
+    (room (G.start y) (few y (a .biased .to)) (a .adds), at-from a, n, part (G.start y) (a .adds), omega (arith, part (G.start y) (a .adds), a .ordinal-is))
   where
     few : (y : ℕ) → y < 4_294_967_648 → G.start y < 1_900_000_000_000
     few y h = sum (365 * y) ((y + 3) / 4) ((y + 399) / 400) ((y + 99) / 100) (omega arith) (omega arith) (omega arith)
@@ -341,42 +341,42 @@ labelled-room {k = k} {y} {d = d} {o} (new h a) =
     part : (s : ℕ) → s + o ≡ k + 1 → o ≤ k + 1
     part s e = omega arith
 
-module _ (c : Calendar) {r : ℕ} (runs : Runs (meant c) r) (s : S.Spot) {n : ℤ} (l : OnSpot r s) (e : day (s .held) ≡ n) where
-  pub record-plain : (r ≤ s .held → r + s .ordinal ≤ s .held + 1) → IsRecord c n (plainRecord c s n)
+module _ (c : Calendar) {r : ℕ} (runs : Runs (definitionOf c) r) (s : S.Spot) {n : ℤ} (l : OnSpot r s) (e : day (s .biased) ≡ n) where
+  pub record-plain : (r ≤ s .biased → r + s .ordinal ≤ s .biased + 1) → IsRecord c n (plainRecord c s n)
   record-plain h = record-is c runs l e refl (plain-ordinal c runs l h) (plain-day-ordinal c runs l h)
 
-  pub record-reform : {a b : ℕ} {z : ℤ} → r ≤ s .held → year (heldYear (s .year)) ≡ z → a ≡ firstDay r (J.start (heldYear (s .year))) (s .held + 1 - s .ordinal)
-      → b ≡ firstDay r (julianMonth (heldYear (s .year)) (s .month)) (s .held + 1 - s .day)
-      → IsRecord c n (record { calendar = c; year = z; ordinal = s .held + 1 - a; month = s .month; day = s .day; «day_ordinal» = s .held + 1 - b; jdn = n })
+  pub record-reform : {a b : ℕ} {z : ℤ} → r ≤ s .biased → year (biasedYear (s .year)) ≡ z → a ≡ firstDay r (J.start (biasedYear (s .year))) (s .biased + 1 - s .ordinal)
+      → b ≡ firstDay r (julianMonth (biasedYear (s .year)) (s .month)) (s .biased + 1 - s .day)
+      → IsRecord c n (record { calendar = c; year = z; ordinal = s .biased + 1 - a; month = s .month; day = s .day; «day_ordinal» = s .biased + 1 - b; jdn = n })
   record-reform h f g i =
       let a = labelled-new l h in
       record-is c runs l e f
-      (ap (λ (x : ℕ). s .held + 1 - x) (sym (g ∙ ap (firstDay r (J.start (heldYear (s .year)))) (sym (year-begins a)))))
-      (ap (λ (x : ℕ). s .held + 1 - x) (sym (i ∙ ap (firstDay r (julianMonth (heldYear (s .year)) (s .month))) (sym (month-begins a)))))
+      (ap (λ (x : ℕ). s .biased + 1 - x) (sym (g ∙ ap (firstDay r (J.start (biasedYear (s .year)))) (sym (year-begins a)))))
+      (ap (λ (x : ℕ). s .biased + 1 - x) (sym (i ∙ ap (firstDay r (julianMonth (biasedYear (s .year)) (s .month))) (sym (month-begins a)))))
 
 -- what its places ask of the machine
-module _ {r : ℕ} (s : S.Spot) {a : ℕ} (l : OnSpot r s) (h : r ≤ s .held) where
-  pub reform-year-room : a ≡ firstDay r (J.start (heldYear (s .year))) (s .held + 1 - s .ordinal) → (a ≤ s .held + 1) × (s .held + 1 - a < 2 ^ 32)
+module _ {r : ℕ} (s : S.Spot) {a : ℕ} (l : OnSpot r s) (h : r ≤ s .biased) where
+  pub reform-year-room : a ≡ firstDay r (J.start (biasedYear (s .year))) (s .biased + 1 - s .ordinal) → (a ≤ s .biased + 1) × (s .biased + 1 - a < 2 ^ 32)
   reform-year-room e =
       let p = labelled-new l h in
-      let f = e ∙ ap (firstDay r (J.start (heldYear (s .year)))) (sym (year-begins p)) in
+      let f = e ∙ ap (firstDay r (J.start (biasedYear (s .year)))) (sym (year-begins p)) in
       rw f (
-        place-first r (J.start (heldYear (s .year))) (G.start (heldYear (s .year))) (s .held) (s .ordinal) (p .adds) (at-few p) (year-close p) h,
-        place-few r (J.start (heldYear (s .year))) (G.start (heldYear (s .year))) (s .held) (s .ordinal) (p .adds) (at-few p) (year-close p) h,
+        place-first r (J.start (biasedYear (s .year))) (G.start (biasedYear (s .year))) (s .biased) (s .ordinal) (p .adds) (at-few p) (year-close p) h,
+        place-few r (J.start (biasedYear (s .year))) (G.start (biasedYear (s .year))) (s .biased) (s .ordinal) (p .adds) (at-few p) (year-close p) h,
       )
 
-  pub reform-month-room : a ≡ firstDay r (julianMonth (heldYear (s .year)) (s .month)) (s .held + 1 - s .day) → (a ≤ s .held + 1) × (s .held + 1 - a < 2 ^ 32)
+  pub reform-month-room : a ≡ firstDay r (julianMonth (biasedYear (s .year)) (s .month)) (s .biased + 1 - s .day) → (a ≤ s .biased + 1) × (s .biased + 1 - a < 2 ^ 32)
   reform-month-room e =
       let p = labelled-new l h in
-      let f = e ∙ ap (firstDay r (julianMonth (heldYear (s .year)) (s .month))) (sym (month-begins p)) in
+      let f = e ∙ ap (firstDay r (julianMonth (biasedYear (s .year)) (s .month))) (sym (month-begins p)) in
       rw f (
-        place-first r (julianMonth (heldYear (s .year)) (s .month)) (gregorianMonth (heldYear (s .year)) (s .month)) (s .held) (s .day) (month-adds p) (day-in-month p) (month-close p) h,
-        place-few r (julianMonth (heldYear (s .year)) (s .month)) (gregorianMonth (heldYear (s .year)) (s .month)) (s .held) (s .day) (month-adds p) (day-in-month p) (month-close p) h,
+        place-first r (julianMonth (biasedYear (s .year)) (s .month)) (gregorianMonth (biasedYear (s .year)) (s .month)) (s .biased) (s .day) (month-adds p) (day-in-month p) (month-close p) h,
+        place-few r (julianMonth (biasedYear (s .year)) (s .month)) (gregorianMonth (biasedYear (s .year)) (s .month)) (s .biased) (s .day) (month-adds p) (day-in-month p) (month-close p) h,
       )
 
 -- what is given of a spot is given of its day and year
-pub given-spot : (c : Calendar) {k y o : ℕ} {b : Bool} {s : S.Spot} {a : Dated} → SpotAt k y o b s → Given c (year (heldYear (s .year))) (day (s .held)) a → Given c (year (heldYear y)) (day k) a
-given-spot c {a = a} p g = subst (λ (s : S.Spot). Given c (year (heldYear (s .year))) (day (s .held)) a) (p .is) g
+pub given-spot : (c : Calendar) {k y o : ℕ} {b : Bool} {s : S.Spot} {a : Dated} → SpotAt k y o b s → Given c (year (biasedYear (s .year))) (day (s .biased)) a → Given c (year (biasedYear y)) (day k) a
+given-spot c {a = a} p g = subst (λ (s : S.Spot). Given c (year (biasedYear (s .year))) (day (s .biased)) a) (p .is) g
 
 -- ---- A genuine record
 pub genuine-by : {d t : Date} → RecordOf (d .calendar) (d .jdn) (Dated′.Date t) → Accepted (d .calendar) → fieldsOf d ≡ fieldsOf t → Genuine d
@@ -427,14 +427,14 @@ converts-row g (refuses x) = refuses (λ p. x (p .1))
 converts-row g (passes x r) = passes (g, x) r
 
 -- ---- Styles
-pub julian-style : (c : Calendar) {r : ℕ} → Runs (meant c) r → {n : ℤ} (x : ℕ) → x < 2 ^ 32 → unbias (2 ^ 31) x ≡ n → ltb (heldDay x) r ≡ sameStyle JulianStyle (style (meant c) n)
-julian-style c {r} runs x h e = subst (λ (n : ℤ). ltb (heldDay x) r ≡ sameStyle JulianStyle (style (meant c) n)) (held-day x ∙ e) (⊎-elim
-    (λ g. lt-ltb (heldDay x) r g ∙ sym (ap (sameStyle JulianStyle) (runs .below (heldDay x) g (omega arith) .1)))
-    (λ g. le-ltb (heldDay x) r g ∙ sym (ap (sameStyle JulianStyle) (runs .above (heldDay x) g (omega arith) .1)))
-    (lt-or-ge (heldDay x) r))
+pub julian-style : (c : Calendar) {r : ℕ} → Runs (definitionOf c) r → {n : ℤ} (x : ℕ) → x < 2 ^ 32 → unbias (2 ^ 31) x ≡ n → ltb (biasedDay x) r ≡ sameStyle JulianStyle (style (definitionOf c) n)
+julian-style c {r} runs x h e = subst (λ (n : ℤ). ltb (biasedDay x) r ≡ sameStyle JulianStyle (style (definitionOf c) n)) (biased-day x ∙ e) (⊎-elim
+    (λ g. lt-ltb (biasedDay x) r g ∙ sym (ap (sameStyle JulianStyle) (runs .below (biasedDay x) g (omega arith) .1)))
+    (λ g. le-ltb (biasedDay x) r g ∙ sym (ap (sameStyle JulianStyle) (runs .above (biasedDay x) g (omega arith) .1)))
+    (lt-or-ge (biasedDay x) r))
 
 pub other-style : (d : Date) {b : Bool} → b ≡ styleIs JulianStyle d → not b ≡ styleIs GregorianStyle d
-other-style d e = ap not e ∙ other (style (meant (d .calendar)) (d .jdn))
+other-style d e = ap not e ∙ other (style (definitionOf (d .calendar)) (d .jdn))
   where
     other : (s : Style) → not (sameStyle JulianStyle s) ≡ sameStyle GregorianStyle s
     other JulianStyle = refl
@@ -442,13 +442,13 @@ other-style d e = ap not e ∙ other (style (meant (d .calendar)) (d .jdn))
 
 -- ---- The day of the reformation
 pub reform-some : {r : ℤ} (x : ℕ) → Accepted (Reforming r) → unbias (2 ^ 31) x ≡ r → 1 ≤ x
-reform-some x (D.reforming-accepted a) e = omega (arith, accepts-only (heldDay x) (omega arith) (subst D.AcceptedReformation (sym (held-day x ∙ e)) a))
+reform-some x (D.reforming-accepted a) e = omega (arith, accepts-only (biasedDay x) (omega arith) (subst D.AcceptedReformation (sym (biased-day x ∙ e)) a))
 
 -- ---- The rows of a day that is found: by its label, and by its place in its year
 module _ {c : Calendar} {n z : ℤ} {a : Dated} (acc : Accepted c) (g : Given c z n a) where
   pub label-given : {m d : ℕ} → labels c n ≡ label z m d → AtYmd c z m d a
   label-given {m} {d} e =
-      let p = labels-proper (meant c) n in
+      let p = labels-proper (definitionOf c) n in
       let here : Borne (labels c) (label z m d) = (n, e) in
       passes acc (passes (subst (λ (l : Label). Month (l .month)) e (p .0, p .1)) (passes (λ k. k .0 here) (passes (λ s. skipped-nowhere acc s here) (on-label e g))))
 
@@ -488,28 +488,28 @@ one : (s o : ℕ) → 1 ≤ o → s + o ≡ s + o - 1 + 1
 one s o h = omega arith
 
 -- by a month and a day of it, and by an ordinal
-module _ (y : ℕ) {r : ℕ} (h : HeldYear (heldYear y)) where
-  pub whole-there : {t : ℕ} {b : Bool} {m d o : ℕ} → Wholly r (heldYear y) t b → ThereIn b m d → daysBefore b m + d ≡ o → OnSpot r (spot (t + o - 1) y o m d) × Plain r (spot (t + o - 1) y o m d)
+module _ (y : ℕ) {r : ℕ} (h : BiasedYear (biasedYear y)) where
+  pub whole-there : {t : ℕ} {b : Bool} {m d o : ℕ} → Wholly r (biasedYear y) t b → ThereIn b m d → daysBefore b m + d ≡ o → OnSpot r (spot (t + o - 1) y o m d) × Plain r (spot (t + o - 1) y o m d)
   whole-there {m = m} {d} (wholly-old g) v e = in-old g (read-at J.leapAt J.start y m d h refl refl v e)
   whole-there {m = m} {d} (wholly-new f g) v e = in-new g (read-at G.leapAt G.start y m d h refl refl v e)
 
-  pub whole-label : {t : ℕ} {b : Bool} {m d o : ℕ} → Wholly r (heldYear y) t b → OrdinalOf b m d (DayOrdinal′.At o) → OnSpot r (spot (t + o - 1) y o m d) × Plain r (spot (t + o - 1) y o m d)
+  pub whole-label : {t : ℕ} {b : Bool} {m d o : ℕ} → Wholly r (biasedYear y) t b → OrdinalOf b m d (DayOrdinal′.At o) → OnSpot r (spot (t + o - 1) y o m d) × Plain r (spot (t + o - 1) y o m d)
   whole-label w p = let (v, e) = ordinal-sum p in whole-there w v e
 
-  pub whole-ordinal : {t : ℕ} {b : Bool} {o : ℕ} {s : S.Spot} → Wholly r (heldYear y) t b → 1 ≤ o → o ≤ yearLength b → SpotAt (t + o - 1) y o b s → OnSpot r s × Plain r s
+  pub whole-ordinal : {t : ℕ} {b : Bool} {o : ℕ} {s : S.Spot} → Wholly r (biasedYear y) t b → 1 ≤ o → o ≤ yearLength b → SpotAt (t + o - 1) y o b s → OnSpot r s × Plain r s
   whole-ordinal {o = o} (wholly-old g) from to q = subst (λ (s : S.Spot). OnSpot r s × Plain r s) (sym (q .is))
-      (in-old g (spot-made h (record { from = from; to = to; adds = one (J.start (heldYear y)) o from }) refl q))
+      (in-old g (spot-made h (record { from = from; to = to; adds = one (J.start (biasedYear y)) o from }) refl q))
   whole-ordinal {o = o} (wholly-new f g) from to q = subst (λ (s : S.Spot). OnSpot r s × Plain r s) (sym (q .is))
-      (in-new g (spot-made h (record { from = from; to = to; adds = one (G.start (heldYear y)) o from }) refl q))
+      (in-new g (spot-made h (record { from = from; to = to; adds = one (G.start (biasedYear y)) o from }) refl q))
 
 -- its record, or 7
-module _ (c : Calendar) {r : ℕ} (s : S.Spot) {z : ℤ} (runs : Runs (meant c) r) (l : OnSpot r s) (p : Plain r s) where
-  pub usual-date : {n : ℤ} {d : Date} → Lowers (s .held) (DayNumber′.Day n) → d ≡ plainRecord c s n → OnUsualSpot c z s (Usual′.Date d)
-  usual-date {n} w e = given-held c w (subst (IsRecord c n) (sym e) (record-plain c runs s l (lowered-day w) p))
+module _ (c : Calendar) {r : ℕ} (s : S.Spot) {z : ℤ} (runs : Runs (definitionOf c) r) (l : OnSpot r s) (p : Plain r s) where
+  pub usual-date : {n : ℤ} {d : Date} → Lowers (s .biased) (DayNumber′.Day n) → d ≡ plainRecord c s n → OnUsualSpot c z s (Usual′.Date d)
+  usual-date {n} w e = given-biased c w (subst (IsRecord c n) (sym e) (record-plain c runs s l (lowered-day w) p))
 
 -- the answer then, to a label and to an ordinal
-module _ (c : Calendar) {r : ℕ} (runs : Runs (meant c) r) (s : S.Spot) {z : ℤ} (e : year (heldYear (s .year)) ≡ z) (l : OnSpot r s) where
-  spot-label : labels c (day (s .held)) ≡ label z (s .month) (s .day)
+module _ (c : Calendar) {r : ℕ} (runs : Runs (definitionOf c) r) (s : S.Spot) {z : ℤ} (e : year (biasedYear (s .year)) ≡ z) (l : OnSpot r s) where
+  spot-label : labels c (day (s .biased)) ≡ label z (s .month) (s .day)
   spot-label = labelled-is c runs l ∙ ap (λ (z : ℤ). label z (s .month) (s .day)) e
 
   pub usual-ymd : (u : Usual) → OnUsualSpot c z s u → UsualLabel c z (s .month) (s .day) u
@@ -518,34 +518,34 @@ module _ (c : Calendar) {r : ℕ} (runs : Runs (meant c) r) (s : S.Spot) {z : �
   usual-ymd (Usual′.Turning r) g = absurd g
 
   module _ (p : Plain r s) where
-    spot-place : Place (λ d. OfYear z (labels c d)) (day (s .held)) (s .ordinal)
-    spot-place = subst₂ (λ (y : ℤ) (o : ℕ). Place (λ d. OfYear y (labels c d)) (day (s .held)) o) (ap (λ (l : Label). l .year) spot-label) (plain-ordinal c runs l p)
-        (ordinal-at runs (s .held) (heldYear (s .year)) (s .month) (s .day) (labelled-held c runs l) (labelled-is c runs l))
+    spot-place : Place (λ d. OfYear z (labels c d)) (day (s .biased)) (s .ordinal)
+    spot-place = subst₂ (λ (y : ℤ) (o : ℕ). Place (λ d. OfYear y (labels c d)) (day (s .biased)) o) (ap (λ (l : Label). l .year) spot-label) (plain-ordinal c runs l p)
+        (ordinal-at runs (s .biased) (biasedYear (s .year)) (s .month) (s .day) (labelled-biased c runs l) (labelled-is c runs l))
 
     pub usual-ordinal : (u : Usual) → OnUsualSpot c z s u → UsualOrdinal c z (s .ordinal) u
     usual-ordinal (Usual′.Date d) g = ordinal-given (runs .accepted) g (ap (λ (l : Label). l .year) spot-label) spot-place
     usual-ordinal (Usual′.Refused f) g = ordinal-given (runs .accepted) g (ap (λ (l : Label). l .year) spot-label) spot-place
     usual-ordinal (Usual′.Turning r) g = absurd g
 
-pub ordinal-spot : (c : Calendar) {r : ℕ} (runs : Runs (meant c) r) {k y o : ℕ} {b : Bool} (s : S.Spot) {z : ℤ} → SpotAt k y o b s → year (heldYear y) ≡ z → OnSpot r s × Plain r s
+pub ordinal-spot : (c : Calendar) {r : ℕ} (runs : Runs (definitionOf c) r) {k y o : ℕ} {b : Bool} (s : S.Spot) {z : ℤ} → SpotAt k y o b s → year (biasedYear y) ≡ z → OnSpot r s × Plain r s
     → (u : Usual) → OnUsualSpot c z s u → UsualOrdinal c z o u
 ordinal-spot c runs s {z} q e (l, p) u g = subst (λ (o : ℕ). UsualOrdinal c z o u) (ap (λ (s : S.Spot). s .ordinal) (q .is))
-    (usual-ordinal c runs s (ap (λ (s : S.Spot). year (heldYear (s .year))) (q .is) ∙ e) l p u g)
+    (usual-ordinal c runs s (ap (λ (s : S.Spot). year (biasedYear (s .year))) (q .is) ∙ e) l p u g)
 
 -- the refusals of a year that is wholly in one reckoning
-module _ (c : Calendar) {r : ℕ} (runs : Runs (meant c) r) (y : ℕ) {z : ℤ} (h : HeldYear (heldYear y)) (e : year (heldYear y) ≡ z) where
-  pub whole-none : {t m d : ℕ} {b : Bool} → Month m → Wholly r (heldYear y) t b → OrdinalOf b m d DayOrdinal′.Nothing → AtYmd c z m d (refused 4 (pos d))
-  whole-none {m = m} {d} v w n = let (g, i) = wholly-none y w (ordinal-none n) in passes (runs .accepted) (passes v (refuses (on-none runs (heldYear y) m d e h g i)))
+module _ (c : Calendar) {r : ℕ} (runs : Runs (definitionOf c) r) (y : ℕ) {z : ℤ} (h : BiasedYear (biasedYear y)) (e : year (biasedYear y) ≡ z) where
+  pub whole-none : {t m d : ℕ} {b : Bool} → Month m → Wholly r (biasedYear y) t b → OrdinalOf b m d DayOrdinal′.Nothing → AtYmd c z m d (refused 4 (pos d))
+  whole-none {m = m} {d} v w n = let (g, i) = wholly-none y w (ordinal-none n) in passes (runs .accepted) (passes v (refuses (on-none runs (biasedYear y) m d e h g i)))
 
-  off-year : {o : ℕ} → ((o ≡ 0) ⊎ (yearFirst r (heldYear y + 1) - yearFirst r (heldYear y) < o)) → AtOrdinal c z o (refused 6 (pos o))
+  off-year : {o : ℕ} → ((o ≡ 0) ⊎ (yearFirst r (biasedYear y + 1) - yearFirst r (biasedYear y) < o)) → AtOrdinal c z o (refused 6 (pos o))
   off-year {o} n = passes (runs .accepted) (subst (λ (z : ℤ). ByOrdinal c z o (refused 6 (pos o))) e
-      (refuses (yearFirst r (heldYear y + 1) - yearFirst r (heldYear y), year-stretch runs (heldYear y) h .days, n)))
+      (refuses (yearFirst r (biasedYear y + 1) - yearFirst r (biasedYear y), year-stretch runs (biasedYear y) h .days, n)))
 
   pub none-before-one : {o : ℕ} → o < 1 → AtOrdinal c z o (refused 6 (pos o))
   none-before-one n = off-year (inl (omega arith))
 
-  pub none-past-whole : {t o : ℕ} {b : Bool} → Wholly r (heldYear y) t b → yearLength b < o → AtOrdinal c z o (refused 6 (pos o))
-  none-past-whole {o = o} w n = off-year (inr (subst (λ (k : ℕ). k < o) (sym (wholly-days (heldYear y) w)) n))
+  pub none-past-whole : {t o : ℕ} {b : Bool} → Wholly r (biasedYear y) t b → yearLength b < o → AtOrdinal c z o (refused 6 (pos o))
+  none-past-whole {o = o} w n = off-year (inr (subst (λ (k : ℕ). k < o) (sym (wholly-days (biasedYear y) w)) n))
 
 -- ---- The year of a switch
 pub turning-ordinal : (c : Calendar) {z : ℤ} (m : ℕ) {o : ℕ} {a : Dated} → m ≡ 0 → ByOrdinal c z o a → InTurning c z m o a

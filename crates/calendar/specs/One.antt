@@ -5,10 +5,10 @@ use mathlib.Core.Bool.{Bool, true, false}
 use Prim.Native.Nat.{ℕ}
 use lib.IntN.{ℤ}
 use Rattle.days.specs.DayByDay.{Label, label, Timeline, labelsIn, Rises}
-use Rattle.days.specs.Rising.{once, place-one, nth-one}
-use Rattle.days.specs.Calendars.{accepted-rises}
-use Rattle.days.specs.Table.{judged-one}
-use Rattle.days.specs.Runs.{runs-one}
+use Rattle.days.specs.RisingLabels.{once, place-one, nth-one}
+use Rattle.days.specs.AcceptedCalendars.{accepted-rises}
+use Rattle.days.specs.ReformationTable.{judged-one}
+use Rattle.days.specs.ClosedRuns.{runs-one}
 use Rattle.calendar.specs.declared.Calendar.{Calendar}
 use Rattle.calendar.specs.declared.Calendar.the-variants as Calendar′
 use Rattle.calendar.specs.declared.Date.{Date}

@@ -6,11 +6,11 @@ use Prim.Native.Nat.{ℕ, _≤_, _<_}
 use native.Mathlib.Omega.{arith}
 use lib.IntN.{ℤ, sucℤ, predℤ, pred-suc, suc-pred}
 use Rattle.days.specs.DayByDay.{Label, label, Timeline, labelsIn, OfYear, Place, Is32Bit, Month, Rising}
-use Rattle.days.specs.Rising.{once, nth-one, nth-within}
-use Rattle.days.specs.Timelines.{rising-rises, timeline-proper, skipped-in-nowhere}
-use Rattle.days.specs.Places.{has-ordinal, has-day-ordinal}
-use Rattle.days.specs.Calendars.{accepted-rises}
-use Rattle.days.specs.Years.{accepted-rising}
+use Rattle.days.specs.RisingLabels.{once, nth-one, nth-within}
+use Rattle.days.specs.RisingTimelines.{rising-rises, timeline-proper, skipped-in-nowhere}
+use Rattle.days.specs.RisingPlaces.{has-ordinal, has-day-ordinal}
+use Rattle.days.specs.AcceptedCalendars.{accepted-rises}
+use Rattle.days.specs.AcceptedYears.{accepted-rising}
 use Rattle.calendar.specs.declared.Calendar.{Calendar}
 use Rattle.calendar.specs.declared.Date.{Date}
 use Rattle.calendar.specs.declared.Dated.{Dated}

@@ -16,7 +16,7 @@ pub use inner::RATA_DIE_ZERO_JDN;
 pub use inner::REFORM1582_JDN;
 pub use inner::UNIX_EPOCH_JDN;
 use monthdays::DayOrdinal;
-use reformation::Judgement;
+use switches::reformation::Judgement;
 pub use refusals::Refusal;
 pub use refusals::refusal_of;
 use ways::Kind;
@@ -47,7 +47,7 @@ pub struct Date {
 
 // ---- Answers: each is what was asked for, or the refusal
 
-pub enum Reformed {
+pub enum Chosen {
     Calendar(Calendar),
     Refused(Refusal),
 }
@@ -89,7 +89,7 @@ pub enum Near {
 
 // ---- Where a calendar goes over
 
-// A calendar is Julian below a held day and Gregorian from it on. The Julian one goes over past every day that is looked at, the Gregorian
+// A calendar is Julian below a biased day and Gregorian from it on. The Julian one goes over past every day that is looked at, the Gregorian
 // one before.
 pub enum Switch {
     At(u64),
@@ -102,7 +102,7 @@ pub fn switch_of(calendar: Calendar) -> Switch
     match calendar {
         Calendar::Julian => Switch::At(4_000_000_000_000),
         Calendar::Gregorian => Switch::At(0),
-        Calendar::Reforming(r) => match reformation::judge(r) {
+        Calendar::Reforming(r) => match switches::reformation::judge(r) {
             Judgement::Accepted(day) => Switch::At(day),
             Judgement::Refused(_) => Switch::MadeUp,
         },
@@ -130,10 +130,10 @@ fn refused_count(number: u32, value: u32) -> Dated
     Dated::Refused(refusals::refusal_with(number, value))
 }
 
-fn refused_reformation(number: u32, r: i32) -> Reformed
+fn refused_reformation(number: u32, r: i32) -> Chosen
     ensures { λ a. ⌜ a ≡ refusedReformation number r ⌝ }
 {
-    Reformed::Refused(refusal_of(number, widened(r)))
+    Chosen::Refused(refusal_of(number, widened(r)))
 }
 
 fn refused_year(year: i32) -> Dated
@@ -153,11 +153,11 @@ impl Calendar {
     pub const REFORM1582: Calendar = Calendar::Reforming(REFORM1582_JDN);
 
     // The calendar that is reforming at day r.
-    pub fn reforming(r: i32) -> Reformed
+    pub fn reforming(r: i32) -> Chosen
         ensures { λ a. ⌜ Reforms r a ⌝ }
     {
-        match reformation::judge(r) {
-            Judgement::Accepted(_) => Reformed::Calendar(Calendar::Reforming(r)),
+        match switches::reformation::judge(r) {
+            Judgement::Accepted(_) => Chosen::Calendar(Calendar::Reforming(r)),
             Judgement::Refused(number) => refused_reformation(number, r),
         }
     }
@@ -393,7 +393,7 @@ fn is_usual(date: Date) -> bool
     match switch_of(calendar) {
         Switch::MadeUp => false,
         Switch::At(switch) => {
-            let at = changeover::year_in(switch, raised(date.year));
+            let at = switches::year_in(switch, raised(date.year));
             if at.whole {
                 return match monthdays::md2ordinal(at.leap, date.month, date.day) {
                     DayOrdinal::Nothing => false,
@@ -405,7 +405,7 @@ fn is_usual(date: Date) -> bool
     }
 }
 
-// Whether a date has this ordinal, the day ordinal that its day has, and the day number that is held before `past`.
+// Whether a date has this ordinal, the day ordinal that its day has, and the day number that is biased before `past`.
 fn is_on(date: Date, past: u64, ordinal: u32) -> bool
     ensures { λ b. ⌜ IsOn date past ordinal b ⌝ }
 {

@@ -1,21 +1,21 @@
-// The record of a day, and the day of a label: arithmetic on days and years that are held as naturals.
+// The record of a day, and the day of a label: arithmetic on days and years that are biased as naturals.
 
 ghost use mathlib.Core.Path.{_≡_};
 ghost use Prim.Native.Nat.{_≤_, _<_};
-ghost use Rattle.days.specs.Held.{day};
-ghost use Rattle.days.specs.Held as Held;
-ghost use Rattle.days.specs.Runs.{Runs, julianMonth};
+ghost use Rattle.days.specs.BiasedDays.{day};
+ghost use Rattle.days.specs.BiasedDays as Held;
+ghost use Rattle.days.specs.ClosedRuns.{Runs, julianMonth};
 ghost use Rattle.days.specs.DayByDay.{Month};
-ghost use Rattle.inner.specs.Natural.{heldYear};
-ghost use Rattle.calendar.specs.Calendars.{meant, IsRecord};
+ghost use Rattle.inner.specs.Natural.{biasedYear};
+ghost use Rattle.calendar.specs.Calendars.{definitionOf, IsRecord};
 ghost use Rattle.calendar.specs.Promise.{Given, ByLabel, ByOrdinal};
-ghost use Rattle.calendar.specs.Natural.{SpotAt, OnSpot, InYear, plainRecord, Plain, UsualLabel, UsualOrdinal, OnUsualSpot, InTurning};
+ghost use Rattle.calendar.specs.Natural.{SpotAt, OnSpot, DayInYear, plainRecord, Plain, UsualLabel, UsualOrdinal, OnUsualSpot, InTurning};
 use crate::Calendar;
 use crate::Date;
 use crate::Dated;
 use crate::Switch;
 use crate::Usual;
-use changeover::Found;
+use switches::Found;
 use inner::DayNumber;
 use inner::Spot;
 use monthdays::DayOrdinal;
@@ -23,7 +23,7 @@ use monthdays::DayOrdinal;
 // ---- From a day to its record
 
 pub fn on_day(calendar: Calendar, switch: u64, jdn: i32) -> Date
-    requires { ⌜ Runs (meant calendar) switch ⌝ }
+    requires { ⌜ Runs (definitionOf calendar) switch ⌝ }
     ensures { λ d. ⌜ IsRecord calendar jdn d ⌝ }
 {
     let x = whole::raised(jdn);
@@ -49,13 +49,13 @@ pub fn on_day(calendar: Calendar, switch: u64, jdn: i32) -> Date
 }
 
 // The month and the day of the month from the ordinal.
-fn spot_at(held: u64, year: u32, ordinal: u32, leap: bool) -> Spot
+fn spot_at(biased: u64, year: u32, ordinal: u32, leap: bool) -> Spot
     requires { ⌜ 1 ≤ ordinal ⌝ }
-    ensures { λ s. ⌜ SpotAt held year ordinal leap s ⌝ }
+    ensures { λ s. ⌜ SpotAt biased year ordinal leap s ⌝ }
 {
     let at = monthdays::month_day(leap, ordinal - 1);
     Spot {
-        held: held,
+        biased: biased,
         year: year,
         ordinal: ordinal,
         month: at.month,
@@ -65,13 +65,13 @@ fn spot_at(held: u64, year: u32, ordinal: u32, leap: bool) -> Spot
 
 // A Julian day has its places in the Julian year, and so has a Gregorian day in a year that begins from the switch on.
 fn record_of(calendar: Calendar, switch: u64, s: Spot, jdn: i32) -> Date
-    requires { ⌜ Runs (meant calendar) switch × OnSpot switch s × (day (s .held) ≡ jdn) ⌝ }
+    requires { ⌜ Runs (definitionOf calendar) switch × OnSpot switch s × (day (s .biased) ≡ jdn) ⌝ }
     ensures { λ d. ⌜ IsRecord calendar jdn d ⌝ }
 {
-    if s.held < switch {
+    if s.biased < switch {
         return plain_record(calendar, s, jdn);
     }
-    if switch + s.ordinal as u64 <= s.held + 1 {
+    if switch + s.ordinal as u64 <= s.biased + 1 {
         return plain_record(calendar, s, jdn);
     }
     reform_record(calendar, switch, s, jdn)
@@ -93,16 +93,16 @@ fn plain_record(calendar: Calendar, s: Spot, jdn: i32) -> Date
 
 // A Gregorian day of a year that began before the switch: its places count the Julian days of that year and month too.
 fn reform_record(calendar: Calendar, switch: u64, s: Spot, jdn: i32) -> Date
-    requires { ⌜ Runs (meant calendar) switch × OnSpot switch s × (day (s .held) ≡ jdn) × (switch ≤ s .held) ⌝ }
+    requires { ⌜ Runs (definitionOf calendar) switch × OnSpot switch s × (day (s .biased) ≡ jdn) × (switch ≤ s .biased) ⌝ }
     ensures { λ d. ⌜ IsRecord calendar jdn d ⌝ }
 {
-    let past = s.held + 1;
-    let year_first = changeover::first_day(
+    let past = s.biased + 1;
+    let year_first = switches::first_day(
         switch,
         inner::julian_start(s.year),
         past - s.ordinal as u64,
     );
-    let month_first = changeover::first_day(
+    let month_first = switches::first_day(
         switch,
         julian_month(s.year, s.month),
         past - s.day as u64,
@@ -121,7 +121,7 @@ fn reform_record(calendar: Calendar, switch: u64, s: Spot, jdn: i32) -> Date
 // The first day of a month in the Julian reckoning.
 fn julian_month(year: u32, month: u32) -> u64
     requires { ⌜ Month month ⌝ }
-    ensures { λ r. ⌜ r ≡ julianMonth (heldYear year) month ⌝ }
+    ensures { λ r. ⌜ r ≡ julianMonth (biasedYear year) month ⌝ }
 {
     match monthdays::md2ordinal(inner::is_julian_leap(year), month, 1) {
         DayOrdinal::At(ordinal) => inner::julian_start(year) + ordinal as u64 - 1,
@@ -132,10 +132,10 @@ fn julian_month(year: u32, month: u32) -> u64
 // ---- From a label to its day
 
 fn on_label(calendar: Calendar, switch: u64, year: i32, month: u32, day: u32) -> Dated
-    requires { ⌜ Runs (meant calendar) switch × Month month ⌝ }
+    requires { ⌜ Runs (definitionOf calendar) switch × Month month ⌝ }
     ensures { λ d. ⌜ ByLabel calendar year month day d ⌝ }
 {
-    match changeover::find(switch, whole::raised(year), month, day) {
+    match switches::find(switch, whole::raised(year), month, day) {
         Found::At(s) => given(calendar, switch, s),
         Found::Refused(refusal) => Dated::Refused(refusal),
     }
@@ -143,10 +143,10 @@ fn on_label(calendar: Calendar, switch: u64, year: i32, month: u32, day: u32) ->
 
 // The record of a day, or that 32 bits do not hold its number.
 fn given(calendar: Calendar, switch: u64, s: Spot) -> Dated
-    requires { ⌜ Runs (meant calendar) switch × OnSpot switch s ⌝ }
-    ensures { λ d. ⌜ Given calendar (Held.year (heldYear (s .year))) (day (s .held)) d ⌝ }
+    requires { ⌜ Runs (definitionOf calendar) switch × OnSpot switch s ⌝ }
+    ensures { λ d. ⌜ Given calendar (Held.year (biasedYear (s .year))) (day (s .biased)) d ⌝ }
 {
-    match inner::day_number(s.held) {
+    match inner::day_number(s.biased) {
         DayNumber::Day(jdn) => Dated::Date(record_of(calendar, switch, s, jdn)),
         DayNumber::Nothing => crate::refused_year(whole::lowered(s.year)),
         DayNumber::Outside32 => crate::refused_year(whole::lowered(s.year)),
@@ -156,11 +156,11 @@ fn given(calendar: Calendar, switch: u64, s: Spot) -> Dated
 // ---- From a place in a year to its day
 
 fn on_ordinal(calendar: Calendar, switch: u64, year: i32, ordinal: u32) -> Dated
-    requires { ⌜ Runs (meant calendar) switch ⌝ }
+    requires { ⌜ Runs (definitionOf calendar) switch ⌝ }
     ensures { λ d. ⌜ ByOrdinal calendar year ordinal d ⌝ }
 {
     let y = whole::raised(year);
-    let span = changeover::year_span(switch, y);
+    let span = switches::year_span(switch, y);
     if ordinal < 1 {
         return crate::refused_count(6, ordinal);
     }
@@ -171,23 +171,23 @@ fn on_ordinal(calendar: Calendar, switch: u64, year: i32, ordinal: u32) -> Dated
 }
 
 // The record of a day of a raised year, by its ordinal in its own reckoning.
-fn in_year(calendar: Calendar, switch: u64, year: u32, held: u64) -> Dated
-    requires { ⌜ InYear calendar switch year held ⌝ }
-    ensures { λ d. ⌜ Given calendar (Held.year (heldYear year)) (day held) d ⌝ }
+fn in_year(calendar: Calendar, switch: u64, year: u32, biased: u64) -> Dated
+    requires { ⌜ DayInYear calendar switch year biased ⌝ }
+    ensures { λ d. ⌜ Given calendar (Held.year (biasedYear year)) (day biased) d ⌝ }
 {
-    if held < switch {
-        let ordinal = held + 1 - inner::julian_start(year);
+    if biased < switch {
+        let ordinal = biased + 1 - inner::julian_start(year);
         return given(
             calendar,
             switch,
-            spot_at(held, year, ordinal as u32, inner::is_julian_leap(year)),
+            spot_at(biased, year, ordinal as u32, inner::is_julian_leap(year)),
         );
     }
-    let ordinal = held + 1 - inner::gregorian_start(year);
+    let ordinal = biased + 1 - inner::gregorian_start(year);
     given(
         calendar,
         switch,
-        spot_at(held, year, ordinal as u32, inner::is_gregorian_leap(year)),
+        spot_at(biased, year, ordinal as u32, inner::is_gregorian_leap(year)),
     )
 }
 
@@ -206,13 +206,13 @@ pub fn usual_label(calendar: Calendar, year: i32, month: u32, day: u32) -> Usual
                 return Usual::Refused(refusals::refusal_with(3, month));
             }
             let y = whole::raised(year);
-            let at = changeover::year_in(switch, y);
+            let at = switches::year_in(switch, y);
             if at.whole {
                 return match monthdays::md2ordinal(at.leap, month, day) {
                     DayOrdinal::Nothing => Usual::Refused(refusals::refusal_with(4, day)),
                     DayOrdinal::At(ordinal) => {
                         let s = Spot {
-                            held: at.first + ordinal as u64 - 1,
+                            biased: at.first + ordinal as u64 - 1,
                             year: y,
                             ordinal: ordinal,
                             month: month,
@@ -237,7 +237,7 @@ pub fn usual_ordinal(calendar: Calendar, year: i32, ordinal: u32) -> Usual
             if ordinal < 1 {
                 return Usual::Refused(refusals::refusal_with(6, ordinal));
             }
-            let at = changeover::year_in(switch, y);
+            let at = switches::year_in(switch, y);
             if at.whole {
                 if inner::days_in_year(at.leap) < ordinal {
                     return Usual::Refused(refusals::refusal_with(6, ordinal));
@@ -252,10 +252,10 @@ pub fn usual_ordinal(calendar: Calendar, year: i32, ordinal: u32) -> Usual
 
 // The record of a spot in such a year, or that 32 bits do not hold its day number.
 fn usual_spot(calendar: Calendar, switch: u64, year: i32, s: Spot) -> Usual
-    requires { ⌜ Runs (meant calendar) switch × OnSpot switch s × Plain switch s ⌝ }
+    requires { ⌜ Runs (definitionOf calendar) switch × OnSpot switch s × Plain switch s ⌝ }
     ensures { λ u. ⌜ OnUsualSpot calendar year s u ⌝ }
 {
-    match inner::day_number(s.held) {
+    match inner::day_number(s.biased) {
         DayNumber::Day(jdn) => Usual::Date(plain_record(calendar, s, jdn)),
         DayNumber::Nothing => Usual::Refused(refusals::outside_32_bits(year)),
         DayNumber::Outside32 => Usual::Refused(refusals::outside_32_bits(year)),
@@ -266,7 +266,7 @@ fn usual_spot(calendar: Calendar, switch: u64, year: i32, s: Spot) -> Usual
 
 // It has two callers, and so the compiler leaves it out of the way of the usual dates.
 pub fn turning(calendar: Calendar, switch: u64, year: i32, month: u32, number: u32) -> Dated
-    requires { ⌜ Runs (meant calendar) switch × (month ≤ 12) ⌝ }
+    requires { ⌜ Runs (definitionOf calendar) switch × (month ≤ 12) ⌝ }
     ensures { λ d. ⌜ InTurning calendar year month number d ⌝ }
 {
     if month == 0 {

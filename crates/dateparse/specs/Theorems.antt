@@ -9,10 +9,10 @@ use lib.IntN.{ℤ, pos, negsuc}
 use lib.Signed.{_≤ℤ_}
 use lib.ListN.{length, take}
 use Rattle.days.specs.DayByDay.{Label, label, Timeline, labelsIn, Rises, OfYear, Place, Is32Bit, Rising}
-use Rattle.days.specs.Rising.{once, nth-one}
-use Rattle.days.specs.Calendars.{accepted-rises}
-use Rattle.days.specs.Timelines.{rising-rises, timeline-proper, timeline-most}
-use Rattle.days.specs.Years.{year-from, year-to, year-short, accepted-rising}
+use Rattle.days.specs.RisingLabels.{once, nth-one}
+use Rattle.days.specs.AcceptedCalendars.{accepted-rises}
+use Rattle.days.specs.RisingTimelines.{rising-rises, timeline-proper, timeline-most}
+use Rattle.days.specs.AcceptedYears.{year-from, year-to, year-short, accepted-rising}
 use Rattle.calendar.specs.declared.Calendar.{Calendar}
 use Rattle.calendar.specs.declared.Date.{Date}
 use Rattle.calendar.specs.declared.Dated.{Dated}

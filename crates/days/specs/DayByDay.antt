@@ -165,7 +165,7 @@ pub data Calendar : Type 0 where
   Gregorian : Calendar
   Reforming : ℤ → Calendar
 
--- reforming at r, days below r have their Julian label, days from r on their Gregorian one (shown in `Calendars`: `reforming-labels`)
+-- reforming at r, days below r have their Julian label, days from r on their Gregorian one (shown in `AcceptedCalendars`: `reforming-labels`)
 abbrev pub timeline : Calendar → Timeline
 timeline Julian = record { before = julianEra; switches = [] }
 timeline Gregorian = record { before = gregorianEra; switches = [] }

@@ -8,19 +8,19 @@ use lib.IntN.{ℤ, pos, negsuc}
 use mathlib.Core.Bool.{Bool, _&&_}
 use mir.Facts.{and-yes, leb-yes, ltb-yes}
 use Rattle.days.specs.DayByDay.{Label, label, monthLength, Calendar, Julian, Gregorian, Reforming, labels, Borne, OfYear, Place, Ordinal, DayOrdinal, YearLength, Skipped, weekday, UnixTime}
-use Rattle.days.specs.Held.{day, year, HeldYear}
-use Rattle.days.specs.Julian as J
-use Rattle.days.specs.Gregorian as G
-use Rattle.days.specs.Numbers.{There, number}
-use Rattle.days.specs.Table.{accepts}
-use Rattle.days.specs.Runs.{Runs, julian-runs, gregorian-runs, reforming-runs, on-old, on-new, on-none, ordinal-at, day-ordinal-at, year-stretch, yearFirst, monthFirst}
-use Rattle.days.specs.Weekdays.{weekday-is}
+use Rattle.days.specs.BiasedDays.{day, year, BiasedYear}
+use Rattle.days.specs.ClosedJulian as J
+use Rattle.days.specs.ClosedGregorian as G
+use Rattle.days.specs.ClosedNumbers.{There, number}
+use Rattle.days.specs.ReformationTable.{accepts}
+use Rattle.days.specs.ClosedRuns.{Runs, julian-runs, gregorian-runs, reforming-runs, on-old, on-new, on-none, ordinal-at, day-ordinal-at, year-stretch, yearFirst, monthFirst}
+use Rattle.days.specs.ClosedWeekdays.{weekday-is}
 
 -- ---- The statement
 
 -- day n of the calendar c is of the year y and has the ordinal o
-abbrev pub InYear : Calendar → ℤ → ℤ → ℕ → Type 0
-InYear c n y o = (labels c n .year ≡ y) × Ordinal (labels c) n o
+abbrev pub YearIs : Calendar → ℤ → ℤ → ℕ → Type 0
+YearIs c n y o = (labels c n .year ≡ y) × Ordinal (labels c) n o
 
 -- day n of the calendar c is year y, month m, day d, and has the ordinal o
 abbrev pub Dated : Calendar → ℤ → ℤ → ℕ → ℕ → ℕ → Type 0
@@ -32,8 +32,8 @@ Missing c y m d = (¬ Borne (labels c) (label y m d)) × (¬ Skipped c (label y 
 
 pub record KnownDays : Type 0 where
   -- 0: Julian -4712 ordinal 1; Gregorian -4713 ordinal 328
-  pub zero-julian : InYear Julian (pos 0) (negsuc 4711) 1
-  pub zero-gregorian : InYear Gregorian (pos 0) (negsuc 4712) 328
+  pub zero-julian : YearIs Julian (pos 0) (negsuc 4711) 1
+  pub zero-gregorian : YearIs Gregorian (pos 0) (negsuc 4712) 328
   -- -2147483648: Julian -5884202-03-16 (75); Gregorian -5884323-05-15 (135)
   pub least-julian : Dated Julian (negsuc 2_147_483_647) (negsuc 5_884_201) 3 16 75
   pub least-gregorian : Dated Gregorian (negsuc 2_147_483_647) (negsuc 5_884_322) 5 15 135
@@ -73,7 +73,7 @@ testThere : (ℕ → Bool) → ℕ → ℕ → ℕ → Bool
 testThere leapAt y m d = leb 352 y && (ltb y 4_294_967_648 && (leb 1 m && (leb m 12 && (leb 1 d && leb d (monthLength (leapAt y) m)))))
 
 module _ (leapAt : ℕ → Bool) (y m d : ℕ) (t : T (testThere leapAt y m d)) where
-  tested : (HeldYear y) × There leapAt y m d
+  tested : (BiasedYear y) × There leapAt y m d
   unfolding testThere
   tested =
       let (a, t₁) = and-yes (leb 352 y) _ t in
@@ -89,7 +89,7 @@ record Known (c : Calendar) (r k y m d : ℕ) : Type 0 where
   day-ordinal : DayOrdinal (labels c) (day k) (k + 1 - monthFirst r y m)
 
 module _ {c : Calendar} {r : ℕ} (runs : Runs c r) (y m d : ℕ) where
-  known : (k : ℕ) → HeldYear y → 1 ≤ m → m ≤ 12 → labels c (day k) ≡ label (year y) m d → Known c r k y m d
+  known : (k : ℕ) → BiasedYear y → 1 ≤ m → m ≤ 12 → labels c (day k) ≡ label (year y) m d → Known c r k y m d
   known k h u v e = record { dated = (e, ordinal-at runs k y m d h e); day-ordinal = day-ordinal-at runs k y m d h e u v }
 
   in-julian : T (testThere J.leapAt y m d) → T (ltb (number J.leapAt J.start y m d) r) → Known c r (number J.leapAt J.start y m d) y m d

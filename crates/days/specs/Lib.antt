@@ -1,28 +1,39 @@
+-- The calendars as mathematics. A reader's files are the first three.
+
+-- The definition, computed near the known labels, and at the known days.
 pub mod DayByDay
 pub mod Examples
-pub mod Steps
-pub mod Order
-pub mod Rising
-pub mod Spans
-pub mod Held
-pub mod Year
-pub mod Months
-pub mod Divides
-pub mod Starts
-pub mod Julian
-pub mod Gregorian
-pub mod Virtual
-pub mod Range
-pub mod Numbers
-pub mod Reckonings
-pub mod Timelines
-pub mod Places
-pub mod Decided
-pub mod Calendars
-pub mod Reformations
-pub mod Table
-pub mod Runs
-pub mod Weekdays
 pub mod KnownDays
-pub mod Years
-pub mod Ends
+
+-- Any labelling of the days that rises, and any timeline that does.
+pub mod LabelOrder
+pub mod RisingLabels
+pub mod RisingSpans
+pub mod RisingTimelines
+pub mod RisingPlaces
+pub mod RisingDecided
+
+-- One reckoning, day by day.
+pub mod ReckoningSteps
+pub mod ReckoningLabels
+
+-- Closed forms: days and years as biased natural numbers, and the label of a day by arithmetic on them.
+pub mod BiasedDays
+pub mod ClosedYear
+pub mod ClosedMonths
+pub mod ClosedDivides
+pub mod ClosedStarts
+pub mod ClosedJulian
+pub mod ClosedGregorian
+pub mod ClosedVirtual
+pub mod ClosedRange
+pub mod ClosedNumbers
+pub mod ClosedRuns
+pub mod ClosedWeekdays
+pub mod ClosedEnds
+
+-- Which reformations are accepted, and what every accepted calendar has.
+pub mod ReformationRules
+pub mod ReformationTable
+pub mod AcceptedCalendars
+pub mod AcceptedYears

@@ -10,7 +10,7 @@ use Rattle.calendar.specs.declared.Calendar.{Calendar}
 use Rattle.refusals.specs.declared.Refusal.{Refusal}
 use Rattle.calendar.specs.declared.Dated.{Dated}
 use Rattle.calendar.specs.declared.Dated.the-variants as Dated′
-use Rattle.calendar.specs.declared.Reformed.the-variants as Reformed′
+use Rattle.calendar.specs.declared.Chosen.the-variants as Chosen′
 use Rattle.calendar.specs.Rows.{If}
 use Rattle.calendar.specs.Promise.{refusal}
 use Rattle.ncal.specs.Promise.{NamesCalendar}
@@ -29,8 +29,8 @@ pub data Entry : List ℕ → List ℕ → List ℕ → Type 0 where
   bare : {name : List ℕ} → Without tab name → Entry name name []
 
 pub data ByEntry (l : List ℕ) : Dated → Type 0 where
-  no-name : {name text : List ℕ} {why : Refusal} → Entry l name text → NamesCalendar name (Reformed′.Refused why) → ByEntry l (Dated′.Refused why)
-  by-text : {name text : List ℕ} {c : Calendar} {a : Dated} → Entry l name text → NamesCalendar name (Reformed′.Calendar c) → ParseDate c text a → ByEntry l a
+  no-name : {name text : List ℕ} {why : Refusal} → Entry l name text → NamesCalendar name (Chosen′.Refused why) → ByEntry l (Dated′.Refused why)
+  by-text : {name text : List ℕ} {c : Calendar} {a : Dated} → Entry l name text → NamesCalendar name (Chosen′.Calendar c) → ParseDate c text a → ByEntry l a
 
 -- 20; then 19; then what the text comes to
 abbrev pub LineAnswer : List ℕ → Dated → Type 0

@@ -11,7 +11,7 @@ use Rattle.whole.specs.Tests.{lt-or-ge}
 use Rattle.bytesearch.specs.Promise.{Without, UpTo}
 use Rattle.refusals.specs.declared.Refusal.{Refusal}
 use Rattle.calendar.specs.declared.Dated.the-variants as Dated′
-use Rattle.calendar.specs.declared.Reformed.the-variants as Reformed′
+use Rattle.calendar.specs.declared.Chosen.the-variants as Chosen′
 use Rattle.ncal.specs.Promise.{NamesCalendar}
 use Rattle.entry.specs.Entry.{tab, Entry, tabbed, bare, ByEntry, no-name}
 
@@ -43,7 +43,7 @@ entry-from {l} {k} b (TextFrom.after-tab h e) = subst (λ (i : ℕ). Entry l (ta
 entry-from {l} {k} b (TextFrom.at-end h e) = subst (λ (i : ℕ). Entry l (take k l) (drop i l)) (sym e) (entry-bare b h)
 
 -- a name that is none, whatever the text
-pub no-calendar : {l : List ℕ} {k : ℕ} {why : Refusal} → UpTo tab l 0 k → NamesCalendar (take k l) (Reformed′.Refused why) → ByEntry l (Dated′.Refused why)
+pub no-calendar : {l : List ℕ} {k : ℕ} {why : Refusal} → UpTo tab l 0 k → NamesCalendar (take k l) (Chosen′.Refused why) → ByEntry l (Dated′.Refused why)
 no-calendar {l} {k} u n = ⊎-elim (λ h. no-name (entry-tabbed u h) n) (λ h. no-name (entry-bare u h) n) (lt-or-ge k (length l))
 
 -- a part of a slice that goes on to its end

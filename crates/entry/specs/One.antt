@@ -5,7 +5,7 @@ use mathlib.Core.Path.{_≡_, refl, sym, subst}
 use mathlib.Core.List.{List}
 use Rattle.bytesearch.specs.One.{never, parted-one, never-parted}
 use Rattle.calendar.specs.declared.Calendar.{Calendar}
-use Rattle.calendar.specs.declared.Reformed.{Reformed}
+use Rattle.calendar.specs.declared.Chosen.{Chosen}
 use Rattle.calendar.specs.Rows.{One, if-one}
 use Rattle.ncal.specs.Promise.{NamesCalendar}
 use Rattle.ncal.specs.Theorems.{named-one}
@@ -19,7 +19,7 @@ entry-same e (tabbed {name} {text} w) (bare v) = absurd (never-parted name text 
 entry-same e (bare w) (tabbed {name} {text} v) = absurd (never-parted name text w (sym e))
 entry-same e (bare w) (bare v) = (e, refl)
 
-named-same : {name name′ : List ℕ} {a b : Reformed} → name ≡ name′ → NamesCalendar name a → NamesCalendar name′ b → a ≡ b
+named-same : {name name′ : List ℕ} {a b : Chosen} → name ≡ name′ → NamesCalendar name a → NamesCalendar name′ b → a ≡ b
 named-same {name} {a = a} {b} e p q = named-one name a b p (subst (λ (s : List ℕ). NamesCalendar s b) (sym e) q)
 
 by-entry-one : (l : List ℕ) → One (ByEntry l)

@@ -8,7 +8,7 @@ ghost use Rattle.entry.specs.Entry.{LineAnswer};
 ghost use Rattle.entry.specs.Laws.{TextFrom};
 use calendar::Calendar;
 use calendar::Dated;
-use calendar::Reformed;
+use calendar::Chosen;
 
 // The longest line that is read.
 pub const LONGEST_ENTRY: usize = 512;
@@ -25,7 +25,7 @@ fn text_from(len: usize, tab: usize) -> usize
 }
 
 // Each part of the line is lent in a function of its own, so that no function has both.
-fn named_before(line: &[u8], tab: usize) -> Reformed
+fn named_before(line: &[u8], tab: usize) -> Chosen
     requires { ⌜ tab ≤ length (now line) ⌝ }
     ensures { λ r. ⌜ NamesCalendar (take tab (now (line .entry))) r ⌝ }
 {
@@ -48,7 +48,7 @@ pub fn line_answer(line: &[u8]) -> Dated
     }
     let tab = bytesearch::by_eights(line, 0, b'\t');
     match named_before(line, tab) {
-        Reformed::Refused(why) => Dated::Refused(why),
-        Reformed::Calendar(calendar) => parsed_from(calendar, line, text_from(line.len(), tab)),
+        Chosen::Refused(why) => Dated::Refused(why),
+        Chosen::Calendar(calendar) => parsed_from(calendar, line, text_from(line.len(), tab)),
     }
 }

@@ -17,33 +17,33 @@ use Rattle.whole.specs.Biased.{unbias}
 use Rattle.whole.specs.Machine.{back, unbias-both}
 use Rattle.whole.specs.Edge.{unbias-fits-only}
 use Rattle.days.specs.DayByDay.{Label, Reckoning, labelOf, julian, gregorian, julianLeap, gregorianLeap, Calendar, Julian, Gregorian, labels, OfYear, Place, Ordinal}
-use Rattle.days.specs.Rising.{nth-within}
-use Rattle.days.specs.Held.{dayBias, day, year, HeldDay, HeldYear}
-use Rattle.days.specs.Year.{yearLength}
-use Rattle.days.specs.Starts.{Starts, Spot, label-of}
-use Rattle.days.specs.Julian as J
-use Rattle.days.specs.Gregorian as G
-use Rattle.days.specs.Virtual.{spot-gregorian}
-use Rattle.days.specs.Table.{fits-held}
-use Rattle.days.specs.Runs.{Runs, top, julian-runs, gregorian-runs, yearFirst, first-julian, first-gregorian, year-stretch, year-plain}
+use Rattle.days.specs.RisingLabels.{nth-within}
+use Rattle.days.specs.BiasedDays.{dayBias, day, year, HeldDay, BiasedYear}
+use Rattle.days.specs.ClosedYear.{yearLength}
+use Rattle.days.specs.ClosedStarts.{Starts, Spot, label-of}
+use Rattle.days.specs.ClosedJulian as J
+use Rattle.days.specs.ClosedGregorian as G
+use Rattle.days.specs.ClosedVirtual.{spot-gregorian}
+use Rattle.days.specs.ReformationTable.{fits-biased}
+use Rattle.days.specs.ClosedRuns.{Runs, top, julian-runs, gregorian-runs, yearFirst, first-julian, first-gregorian, year-stretch, year-plain}
 use Rattle.inner.specs.declared.DayNumber.{DayNumber}
 use Rattle.inner.specs.declared.DayNumber.the-variants as DayNumber′
 use Rattle.inner.specs.Promise.{YearAndOrdinal, OrdinalDay, DayOfOrdinal, numbered, no-such-day, outside-32}
-use Rattle.inner.specs.Natural.{heldDay, heldYear, VirtualPoint, Lowers, within, beyond, OrdinalNumber, off-year, on-year}
+use Rattle.inner.specs.Natural.{biasedDay, biasedYear, VirtualPoint, Lowers, within, beyond, OrdinalNumber, off-year, on-year}
 
 -- ---- Raised numbers
 
-pub held-day : (x : ℕ) → day (heldDay x) ≡ unbias (2 ^ 31) x
-held-day x = ap day (add-comm x 782_219_326_294) ∙ unbias-both 782_219_326_294 (2 ^ 31) x
+pub biased-day : (x : ℕ) → day (biasedDay x) ≡ unbias (2 ^ 31) x
+biased-day x = ap day (add-comm x 782_219_326_294) ∙ unbias-both 782_219_326_294 (2 ^ 31) x
 
-pub held-year : (x : ℕ) → year (heldYear x) ≡ unbias (2 ^ 31) x
-held-year x = ap year (add-comm x 352) ∙ unbias-both 352 (2 ^ 31) x
+pub biased-year : (x : ℕ) → year (biasedYear x) ≡ unbias (2 ^ 31) x
+biased-year x = ap year (add-comm x 352) ∙ unbias-both 352 (2 ^ 31) x
 
-pub raised-day-held : {x : ℕ} → x < 2 ^ 32 → HeldDay (heldDay x)
-raised-day-held h = record { from = omega arith; to = omega arith }
+pub raised-day-biased : {x : ℕ} → x < 2 ^ 32 → HeldDay (biasedDay x)
+raised-day-biased h = record { from = omega arith; to = omega arith }
 
-pub raised-year-held : {x : ℕ} → x < 2 ^ 32 → HeldYear (heldYear x)
-raised-year-held h = record { from = omega arith; to = omega arith }
+pub raised-year-biased : {x : ℕ} → x < 2 ^ 32 → BiasedYear (biasedYear x)
+raised-year-biased h = record { from = omega arith; to = omega arith }
 
 -- ---- Leap years
 pub julian-leap : (y : ℕ) → julianLeap (year y) ≡ J.leapAt y
@@ -96,8 +96,8 @@ pub record Alone (c : Calendar) (r : ℕ) (reckoning : Reckoning) (leapAt : ℕ 
   pub runs : Runs c r
   pub starts : Starts reckoning leapAt start
   pub same : (n : ℤ) → labels c n ≡ labelOf reckoning n
-  pub first : (y : ℕ) → HeldYear y → yearFirst r y ≡ start y
-  pub first-next : (y : ℕ) → HeldYear y → yearFirst r (y + 1) ≡ start (y + 1)
+  pub first : (y : ℕ) → BiasedYear y → yearFirst r y ≡ start y
+  pub first-next : (y : ℕ) → BiasedYear y → yearFirst r (y + 1) ≡ start (y + 1)
 
 pub julian-alone : Alone Julian top julian J.leapAt J.start
 julian-alone = record {
@@ -121,7 +121,7 @@ module _ {c : Calendar} {r : ℕ} {reckoning : Reckoning} {leapAt : ℕ → Bool
   of-year : {k y o : ℕ} → Spot leapAt start k y o → OfYear (year y) (labels c (day k))
   of-year {k} {y} {o} p = ap (λ (l : Label). l .year) (alone .same (day k) ∙ label-of (alone .starts) k y o p)
 
-  place-of : {k y o : ℕ} → HeldYear y → Spot leapAt start k y o → Place (λ d. OfYear (year y) (labels c d)) (day k) o
+  place-of : {k y o : ℕ} → BiasedYear y → Spot leapAt start k y o → Place (λ d. OfYear (year y) (labels c d)) (day k) o
   place-of {k} {y} {o} h p =
       let e : k + 1 - yearFirst r y ≡ o = ap (λ (a : ℕ). k + 1 - a) (alone .first y h) ∙ rest (start y) (p .adds) in
       subst (Place (λ d. OfYear (year y) (labels c d)) (day k)) e (year-stretch (alone .runs) y h .here k (of-year p) .2)
@@ -130,14 +130,14 @@ module _ {c : Calendar} {r : ℕ} {reckoning : Reckoning} {leapAt : ℕ → Bool
       rest a e = omega arith
 
   -- a year and an ordinal that add up to a day are the day's
-  pub spot-year-and-ordinal : {k y o : ℕ} {n z : ℤ} → HeldYear y → Spot leapAt start k y o → day k ≡ n → year y ≡ z → YearAndOrdinal (labels c) n z o
+  pub spot-year-and-ordinal : {k y o : ℕ} {n z : ℤ} → BiasedYear y → Spot leapAt start k y o → day k ≡ n → year y ≡ z → YearAndOrdinal (labels c) n z o
   spot-year-and-ordinal {k} {y} {o} {z = z} h p e f = record {
     year-is = subst (λ (n : ℤ). OfYear z (labels c n)) e (of-year p ∙ f);
     ordinal-is = subst (λ (n : ℤ). Ordinal (labels c) n o) e (subst (λ (z : ℤ). Place (λ d. OfYear z (labels c d)) (day k) o) (sym (of-year p)) (place-of h p));
   }
 
   -- and the other way round: a day of a year has its ordinal there
-  pub spot-of-year : {k y : ℕ} → HeldYear y → OfYear (year y) (labels c (day k)) → Spot leapAt start k y (k + 1 - start y)
+  pub spot-of-year : {k y : ℕ} → BiasedYear y → OfYear (year y) (labels c (day k)) → Spot leapAt start k y (k + 1 - start y)
   spot-of-year {k} {y} h p =
       let (a, b, q) = year-stretch (alone .runs) y h .here k p in
       let n : start (y + 1) ≡ start y + yearLength (leapAt y) = ap start (add-one y) ∙ alone .starts .start-next y in
@@ -150,7 +150,7 @@ module _ {c : Calendar} {r : ℕ} {reckoning : Reckoning} {leapAt : ℕ → Bool
           some s l e f g i = (omega arith, omega arith, omega arith)
 
   -- the o-th day of a year
-  pub ordinal-day : {y o : ℕ} → HeldYear y → 1 ≤ o → o ≤ yearLength (leapAt y) → OrdinalDay (labels c) (year y) o (day (start y + o - 1))
+  pub ordinal-day : {y o : ℕ} → BiasedYear y → 1 ≤ o → o ≤ yearLength (leapAt y) → OrdinalDay (labels c) (year y) o (day (start y + o - 1))
   ordinal-day {y} {o} h f t =
       let p : Spot leapAt start (start y + o - 1) y o = record { from = f; to = t; adds = sum (start y) } in
       record { of-year = of-year p; place = place-of h p }
@@ -158,7 +158,7 @@ module _ {c : Calendar} {r : ℕ} {reckoning : Reckoning} {leapAt : ℕ → Bool
       sum : (a : ℕ) → a + o ≡ a + o - 1 + 1
       sum a = omega arith
 
-  pub ordinal-within-year : {y o : ℕ} {n : ℤ} → HeldYear y → OrdinalDay (labels c) (year y) o n → (1 ≤ o) × (o ≤ yearLength (leapAt y))
+  pub ordinal-within-year : {y o : ℕ} {n : ℤ} → BiasedYear y → OrdinalDay (labels c) (year y) o n → (1 ≤ o) × (o ≤ yearLength (leapAt y))
   ordinal-within-year {y} {o} h p =
       let (f, t) = nth-within (year-stretch (alone .runs) y h .days) (p .of-year) (p .place) in
       (f, subst (λ (k : ℕ). o ≤ k) days t)
@@ -172,20 +172,20 @@ module _ {c : Calendar} {r : ℕ} {reckoning : Reckoning} {leapAt : ℕ → Bool
           rest e f = omega arith
 
   -- so the answers
-  pub ordinal-answer : {y o s : ℕ} {z : ℤ} {b : Bool} {d : DayNumber} → HeldYear y → year y ≡ z → b ≡ leapAt y → s ≡ start y → OrdinalNumber b s o d → DayOfOrdinal (labels c) z o d
+  pub ordinal-answer : {y o s : ℕ} {z : ℤ} {b : Bool} {d : DayNumber} → BiasedYear y → year y ≡ z → b ≡ leapAt y → s ≡ start y → OrdinalNumber b s o d → DayOfOrdinal (labels c) z o d
   ordinal-answer {y} {o} {s} {d = d} h e f g n =
       subst (λ (z : ℤ). DayOfOrdinal (labels c) z o d) e (by (subst (λ (s : ℕ). OrdinalNumber (leapAt y) s o d) g (subst (λ (b : Bool). OrdinalNumber b s o d) f n)))
     where
       lowered-is : {d : DayNumber} → 1 ≤ o → o ≤ yearLength (leapAt y) → Lowers (start y + o - 1) d → DayOfOrdinal (labels c) (year y) o d
-      lowered-is u t (within w) = numbered (fits-held w) (ordinal-day h u t)
+      lowered-is u t (within w) = numbered (fits-biased w) (ordinal-day h u t)
       lowered-is u t (beyond b) = outside-32 b (ordinal-day h u t)
 
       by : {d : DayNumber} → OrdinalNumber (leapAt y) (start y) o d → DayOfOrdinal (labels c) (year y) o d
       by (off-year n) = no-such-day (λ i p. n (ordinal-within-year h p))
       by (on-year u t l) = lowered-is u t l
 
--- a held year that was lowered by 352 is raised again
-pub spot-again : {leapAt : ℕ → Bool} {start : ℕ → ℕ} {k y o : ℕ} → HeldYear y → Spot leapAt start k y o → Spot leapAt start k (y - 352 + 352) o
+-- a biased year that was lowered by 352 is raised again
+pub spot-again : {leapAt : ℕ → Bool} {start : ℕ → ℕ} {k y o : ℕ} → BiasedYear y → Spot leapAt start k y o → Spot leapAt start k (y - 352 + 352) o
 spot-again {leapAt} {start} {k} {y} {o} h p = let e : y ≡ y - 352 + 352 = omega (arith, h .from) in subst (λ (y : ℕ). Spot leapAt start k y o) e p
 
 -- the year and ordinal of a day by quarters of a day, of which a year has 1461
@@ -210,7 +210,7 @@ virtual-less {r} h v = ⊎-elim (λ l. omega (arith, v .first-year l)) (λ g. om
 pub virtual-some : {r p : ℕ} → VirtualPoint r p → 1 ≤ p
 virtual-some {r} v = ⊎-elim (λ h. omega (arith, v .first-year h)) (λ h. omega (arith, v .later-year h)) (lt-or-ge r 366)
 
--- year and ordinal of a held day, from those of the place in its cycle
+-- year and ordinal of a biased day, from those of the place in its cycle
 pub virtual-spot : (k : ℕ) {p y o : ℕ} → 16_106_132 ≤ k → VirtualPoint ((k - 16_106_132) % 146_097) p → Spot J.leapAt J.start (p - 1) y o
     → Spot G.leapAt G.start k (400 * ((k - 16_106_132) / 146_097) + y) o
 virtual-spot k {p} {y} {o} h v s =
@@ -225,7 +225,7 @@ virtual-spot k {p} {y} {o} h v s =
     whole : (d : ℕ) → (d % 146_097 < 366 → p ≡ d % 146_097 + 1) → (366 ≤ d % 146_097 → p ≡ d % 146_097 + (d % 146_097 - 366) / 36_524 + 1) → p - 1 ≡ d % 146_097 + (p - 1 - d % 146_097)
     whole d f g = ⊎-elim (λ h. omega (arith, f h)) (λ h. omega (arith, g h)) (lt-or-ge (d % 146_097) 366)
 
--- ---- A held day in 32 bits
+-- ---- A biased day in 32 bits
 pub lowers-below : {k : ℕ} → k < 782_219_326_294 → Lowers k DayNumber′.Outside32
 lowers-below {k} h = beyond (λ f. never (unbias-fits-only dayBias k f))
   where
@@ -241,10 +241,10 @@ lowers-above {k} h = beyond (λ f. never (unbias-fits-only dayBias k f))
 pub lowers-within : {k : ℕ} {z : ℤ} → 782_219_326_294 ≤ k → k < 786_514_293_590 → z ≡ unbias (2 ^ 31) (k - 782_219_326_294) → Lowers k (DayNumber′.Day (toZ w32 (ofZ w32 z)))
 lowers-within {k} {z} h g e =
     let w : HeldDay k = record { from = h; to = g } in
-    subst (λ (z : ℤ). Lowers k (DayNumber′.Day z)) (sym (back (e ∙ same) (fits-held w))) (within w)
+    subst (λ (z : ℤ). Lowers k (DayNumber′.Day z)) (sym (back (e ∙ same) (fits-biased w))) (within w)
   where
     over : k - 782_219_326_294 + 782_219_326_294 ≡ k
     over = omega arith
 
     same : unbias (2 ^ 31) (k - 782_219_326_294) ≡ day k
-    same = sym (held-day (k - 782_219_326_294)) ∙ ap day over
+    same = sym (biased-day (k - 782_219_326_294)) ∙ ap day over

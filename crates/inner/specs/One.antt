@@ -7,14 +7,14 @@ use native.Mathlib.Omega.{arith}
 use lib.IntN.{ℤ}
 use Rattle.whole.specs.Biased.{unbias-injective}
 use Rattle.days.specs.DayByDay.{Label, Reckoning, Is32Bit}
-use Rattle.days.specs.Rising.{place-one, nth-one}
-use Rattle.days.specs.Held.{yearBias, year}
-use Rattle.days.specs.Starts.{Starts, Spot, label-of}
-use Rattle.days.specs.Table.{fits-held}
+use Rattle.days.specs.RisingLabels.{place-one, nth-one}
+use Rattle.days.specs.BiasedDays.{yearBias, year}
+use Rattle.days.specs.ClosedStarts.{Starts, Spot, label-of}
+use Rattle.days.specs.ReformationTable.{fits-biased}
 use Rattle.inner.specs.declared.DayNumber.{DayNumber}
 use Rattle.inner.specs.declared.DayNumber.the-variants as DayNumber′
 use Rattle.inner.specs.Promise.{YearAndOrdinal, OrdinalDay, DayOfOrdinal, numbered, no-such-day, outside-32}
-use Rattle.inner.specs.Natural.{heldYear, Lowers, within, beyond}
+use Rattle.inner.specs.Natural.{biasedYear, Lowers, within, beyond}
 
 -- a day has one year and one ordinal
 pub year-and-ordinal-one : {f : ℤ → Label} {n y z : ℤ} {o p : ℕ} → YearAndOrdinal f n y o → YearAndOrdinal f n z p → (y ≡ z) × (o ≡ p)
@@ -34,23 +34,23 @@ day-of-ordinal-one (outside-32 f a) (numbered g b) = absurd (f (subst Is32Bit (o
 day-of-ordinal-one (outside-32 f a) (no-such-day n) = absurd (n _ a)
 day-of-ordinal-one (outside-32 f a) (outside-32 g b) = refl
 
--- ---- Of days and years that are held as naturals
+-- ---- Of days and years that are biased as naturals
 
 -- a day has one year and one ordinal: its label tells the year, and the first day of that year tells the ordinal. The starts are
 -- `J.starts` and `G.starts` of `days`.
 pub spot-one : {c : Reckoning} {leapAt : ℕ → Bool} {start : ℕ → ℕ} → Starts c leapAt start → {k : ℕ} (y z : ℕ) {o p : ℕ}
-    → Spot leapAt start k (heldYear y) o → Spot leapAt start k (heldYear z) p → (y ≡ z) × (o ≡ p)
+    → Spot leapAt start k (biasedYear y) o → Spot leapAt start k (biasedYear z) p → (y ≡ z) × (o ≡ p)
 spot-one {start = start} s {k} y z {o} {p} a b =
-    let e : heldYear y ≡ heldYear z = unbias-injective yearBias (heldYear y) (heldYear z)
-    (ap (λ (l : Label). l .year) (sym (label-of s k (heldYear y) o a) ∙ label-of s k (heldYear z) p b)) in
-    (omega arith, rest (start (heldYear y)) (start (heldYear z)) (ap start e) (a .adds) (b .adds))
+    let e : biasedYear y ≡ biasedYear z = unbias-injective yearBias (biasedYear y) (biasedYear z)
+    (ap (λ (l : Label). l .year) (sym (label-of s k (biasedYear y) o a) ∙ label-of s k (biasedYear z) p b)) in
+    (omega arith, rest (start (biasedYear y)) (start (biasedYear z)) (ap start e) (a .adds) (b .adds))
   where
     rest : (m n : ℕ) → m ≡ n → m + o ≡ k + 1 → n + p ≡ k + 1 → o ≡ p
     rest m n e f g = omega arith
 
--- a held day is of 32 bits, or it is not
+-- a biased day is of 32 bits, or it is not
 pub lowers-one : {k : ℕ} {r s : DayNumber} → Lowers k r → Lowers k s → r ≡ s
 lowers-one (within h) (within g) = refl
-lowers-one (within h) (beyond n) = absurd (n (fits-held h))
-lowers-one (beyond n) (within g) = absurd (n (fits-held g))
+lowers-one (within h) (beyond n) = absurd (n (fits-biased h))
+lowers-one (beyond n) (within g) = absurd (n (fits-biased g))
 lowers-one (beyond n) (beyond m) = refl

@@ -4,18 +4,18 @@ use mathlib.Core.Path.{_≡_}
 use mathlib.Core.Bool.{Bool}
 use Prim.Native.Nat.{ℕ, _+_, _-_, _≤_}
 use native.Mathlib.Omega.{arith}
-use Rattle.days.specs.Held.{HeldYear}
-use Rattle.days.specs.Year.{year-most}
-use Rattle.days.specs.Numbers.{There, number, daysBefore, before}
-use Rattle.days.specs.Months.{ordinal-within}
+use Rattle.days.specs.BiasedDays.{BiasedYear}
+use Rattle.days.specs.ClosedYear.{year-most}
+use Rattle.days.specs.ClosedNumbers.{There, number, daysBefore, before}
+use Rattle.days.specs.ClosedMonths.{ordinal-within}
 use Rattle.inner.specs.declared.Spot.{Spot}
 
 abbrev pub spot : ℕ → ℕ → ℕ → ℕ → ℕ → Spot
-spot k y o m d = record { held = k; year = y; ordinal = o; month = m; day = d }
+spot k y o m d = record { biased = k; year = y; ordinal = o; month = m; day = d }
 
 -- day k is the day d of the month m of the year y, and the o-th of that year
 pub record At (leapAt : ℕ → Bool) (start : ℕ → ℕ) (k y m d o : ℕ) : Type 0 where
-  pub held : HeldYear y
+  pub biased : BiasedYear y
   pub there : There leapAt y m d
   pub ordinal-is : daysBefore (leapAt y) m + d ≡ o
   pub adds : start y + o ≡ k + 1

@@ -7,22 +7,22 @@ ghost use mathlib.Core.Path.{_≡_};
 ghost use Prim.Native.Nat.{_<_};
 ghost use Rattle.days.specs.DayByDay.{julian, gregorian, julianLeap, gregorianLeap, labelOf};
 ghost use Rattle.days.specs.KnownDays.{NamedDays};
-ghost use Rattle.days.specs.Year.{yearLength};
-ghost use Rattle.days.specs.Starts.{Spot as InYear};
-ghost use Rattle.days.specs.Julian as J;
-ghost use Rattle.days.specs.Gregorian as G;
+ghost use Rattle.days.specs.ClosedYear.{yearLength};
+ghost use Rattle.days.specs.ClosedStarts.{Spot as InYear};
+ghost use Rattle.days.specs.ClosedJulian as J;
+ghost use Rattle.days.specs.ClosedGregorian as G;
 ghost use Rattle.inner.specs.Promise.{YearAndOrdinal, DayOfOrdinal};
-ghost use Rattle.inner.specs.Natural.{heldDay, heldYear, VirtualPoint, Lowers, OrdinalNumber};
+ghost use Rattle.inner.specs.Natural.{biasedDay, biasedYear, VirtualPoint, Lowers, OrdinalNumber};
 use whole::lowered;
 use whole::raised;
 
-// Day -2147483648, as it is held: every day of every year of 32 bits is a natural then. A raised day is held as so much more.
+// Day -2147483648, as it is biased: every day of every year of 32 bits is a natural then. A raised day is biased as so much more.
 pub const LEAST_DAY: u64 = 782_219_326_294;
 
-// Year -2147483648, as it is held: a held year is a multiple of 400 exactly when the year is one.
+// Year -2147483648, as it is biased: a biased year is a multiple of 400 exactly when the year is one.
 const LEAST_YEAR: u64 = 352;
 
-// The held day on which held year 0 begins in the Gregorian reckoning, and with it the first cycle of 400 years. In the Julian one it is day 0.
+// The biased day on which biased year 0 begins in the Gregorian reckoning, and with it the first cycle of 400 years. In the Julian one it is day 0.
 const FIRST_CYCLE: u64 = 16_106_132;
 
 // ---- Days that have names
@@ -67,14 +67,14 @@ pub fn is_gregorian_leap_year(year: i32) -> bool
 
 // The same of a raised year. Of a multiple of 4, 100 divides it exactly if 25 does, and then 400 does exactly if 16 does.
 pub fn is_julian_leap(year: u32) -> bool
-    ensures { λ r. ⌜ r ≡ J.leapAt (heldYear year) ⌝ }
+    ensures { λ r. ⌜ r ≡ J.leapAt (biasedYear year) ⌝ }
 {
     let y = year as u64 + LEAST_YEAR;
     y % 4 == 0
 }
 
 pub fn is_gregorian_leap(year: u32) -> bool
-    ensures { λ r. ⌜ r ≡ G.leapAt (heldYear year) ⌝ }
+    ensures { λ r. ⌜ r ≡ G.leapAt (biasedYear year) ⌝ }
 {
     let y = year as u64 + LEAST_YEAR;
     if y % 25 != 0 {
@@ -123,7 +123,7 @@ pub struct Place {
 }
 
 pub fn julian_place(day: u32) -> Place
-    ensures { λ r. ⌜ InYear J.leapAt J.start (heldDay day) (heldYear (r .year)) (r .ordinal) ⌝ }
+    ensures { λ r. ⌜ InYear J.leapAt J.start (biasedDay day) (biasedYear (r .year)) (r .ordinal) ⌝ }
 {
     let place = decompose_julian(day as u64 + LEAST_DAY);
     Place {
@@ -135,7 +135,7 @@ pub fn julian_place(day: u32) -> Place
 // Counted from the first day of a cycle of 400 years, with a virtual leap day at the end of each year that is leap by the Julian rule alone,
 // the Julian rule finds year and ordinal.
 pub fn gregorian_place(day: u32) -> Place
-    ensures { λ r. ⌜ InYear G.leapAt G.start (heldDay day) (heldYear (r .year)) (r .ordinal) ⌝ }
+    ensures { λ r. ⌜ InYear G.leapAt G.start (biasedDay day) (biasedYear (r .year)) (r .ordinal) ⌝ }
 {
     // LEAST_DAY less FIRST_CYCLE.
     let days = day as u64 + 782_203_220_162;
@@ -201,7 +201,7 @@ pub fn gregorian2jdn(year: i32, ordinal: u32) -> DayNumber
     ordinal_number(is_gregorian_leap(y), gregorian_start(y), ordinal)
 }
 
-// The day with this place in a year that starts on a held day.
+// The day with this place in a year that starts on a biased day.
 fn ordinal_number(leap: bool, start: u64, ordinal: u32) -> DayNumber
     requires { ⌜ start < 4_000_000_000_000 ⌝ }
     ensures { λ r. ⌜ OrdinalNumber leap start ordinal r ⌝ }
@@ -217,21 +217,21 @@ fn ordinal_number(leap: bool, start: u64, ordinal: u32) -> DayNumber
 
 // The first day of a raised year, 784366809942 above its number.
 pub fn julian_start(year: u32) -> u64
-    ensures { λ r. ⌜ r ≡ J.start (heldYear year) ⌝ }
+    ensures { λ r. ⌜ r ≡ J.start (biasedYear year) ⌝ }
 {
     let y = year as u64 + LEAST_YEAR;
     365 * y + (y + 3) / 4
 }
 
 pub fn gregorian_start(year: u32) -> u64
-    ensures { λ r. ⌜ r ≡ G.start (heldYear year) ⌝ }
+    ensures { λ r. ⌜ r ≡ G.start (biasedYear year) ⌝ }
 {
     let y = year as u64 + LEAST_YEAR;
     let centuries = (y + 99) / 100;
     365 * y + (y + 3) / 4 + (centuries + 3) / 4 + FIRST_CYCLE - centuries
 }
 
-// A day that is held as so much more than its number, in 32 bits.
+// A day that is biased as so much more than its number, in 32 bits.
 pub fn day_number(day: u64) -> DayNumber
     ensures { λ r. ⌜ Lowers day r ⌝ }
 {
@@ -246,11 +246,11 @@ pub fn day_number(day: u64) -> DayNumber
 
 // ---- A day with its label
 
-// A held day, with its raised year, and the ordinal, the month and the day of the month that it has in its own reckoning. In this order its
+// A biased day, with its raised year, and the ordinal, the month and the day of the month that it has in its own reckoning. In this order its
 // fields overlap those of a refusal so that an answer which is either costs no more than the spot alone.
 pub struct Spot {
     pub ordinal: u32,
-    pub held: u64,
+    pub biased: u64,
     pub year: u32,
     pub month: u32,
     pub day: u32,

@@ -12,22 +12,22 @@ use lib.Signed.{_≤ℤ_, clashℤ}
 use Rattle.whole.specs.Tests.{lt-or-ge}
 use Rattle.whole.specs.Integers.{lt-suc, eq-le}
 use Rattle.days.specs.DayByDay.{Label, label, LeapRule, monthLength, Month}
-use Rattle.days.specs.Steps as Steps
-use Rattle.days.specs.Steps.{Valid, after, after-stepping, after-sum, after-valid}
-use Rattle.days.specs.Order.{≺-year}
-use Rattle.days.specs.Year.{yearLength, InYear as MonthAndDay, inYear, dayOfYear, year-most, year-walk, year-over}
-use Rattle.days.specs.Months.{no-month, ordinal-is, ordinal-within}
-use Rattle.days.specs.Numbers.{daysBefore, before, toThirty, monthAt, month-at}
-use Rattle.days.specs.Reckonings.{after-later}
+use Rattle.days.specs.ReckoningSteps as Steps
+use Rattle.days.specs.ReckoningSteps.{Valid, after, after-stepping, after-sum, after-valid}
+use Rattle.days.specs.LabelOrder.{≺-year}
+use Rattle.days.specs.ClosedYear.{yearLength, DayOfMonth as MonthAndDay, dayOfMonth, dayOfYear, year-most, year-walk, year-over}
+use Rattle.days.specs.ClosedMonths.{no-month, ordinal-is, ordinal-within}
+use Rattle.days.specs.ClosedNumbers.{daysBefore, before, toThirty, monthAt, month-at}
+use Rattle.days.specs.ReckoningLabels.{after-later}
 use Rattle.monthdays.specs.declared.MonthDay.the-variants as MonthDay′
 use Rattle.monthdays.specs.declared.DayOrdinal.the-variants as DayOrdinal′
-use Rattle.monthdays.specs.Promise.{InYear, MonthDayOf, month-day, OrdinalOf, ordinal, MonthDayAt}
+use Rattle.monthdays.specs.Promise.{OfOrdinal, MonthDayOf, month-day, OrdinalOf, ordinal, MonthDayAt}
 
 first-valid : (rule : LeapRule) (y : ℤ) → Valid rule (label y 1 1)
 first-valid rule y = record { month-from = omega arith; month-to = omega arith; day-from = omega arith; day-to = Steps.month-some (rule y) 1 (omega arith) (omega arith) }
 
 module _ (leap : Bool) where
-  pub in-year-at : (o : ℕ) → 1 ≤ o → o ≤ yearLength leap → InYear leap o (inYear leap o .month) (inYear leap o .day)
+  pub in-year-at : (o : ℕ) → 1 ≤ o → o ≤ yearLength leap → OfOrdinal leap o (dayOfMonth leap o .month) (dayOfMonth leap o .day)
   in-year-at o f t = record {
     from = f;
     comes = λ rule y e. sym (after-stepping rule (o - 1) (label y 1 1)) ∙ year-walk rule y leap e (o - 1) (omega arith) ∙ ap (dayOfYear leap y) again;
@@ -37,21 +37,21 @@ module _ (leap : Bool) where
       again = omega arith
 
   -- the day d of the month m
-  pub in-year-month : (m d : ℕ) → Month m → 1 ≤ d → d ≤ monthLength leap m → InYear leap (daysBefore leap m + d) m d
+  pub in-year-month : (m d : ℕ) → Month m → 1 ≤ d → d ≤ monthLength leap m → OfOrdinal leap (daysBefore leap m + d) m d
   in-year-month m d (u, v) f t =
-      let e : inYear leap (daysBefore leap m + d) ≡ record { month = m; day = d } = ordinal-is leap m (daysBefore leap m) d u v f t (before leap m u v) in
-      let p : InYear leap (daysBefore leap m + d) (inYear leap (daysBefore leap m + d) .month) (inYear leap (daysBefore leap m + d) .day) =
+      let e : dayOfMonth leap (daysBefore leap m + d) ≡ record { month = m; day = d } = ordinal-is leap m (daysBefore leap m) d u v f t (before leap m u v) in
+      let p : OfOrdinal leap (daysBefore leap m + d) (dayOfMonth leap (daysBefore leap m + d) .month) (dayOfMonth leap (daysBefore leap m + d) .day) =
       in-year-at (daysBefore leap m + d) (omega arith) (ordinal-within leap m (daysBefore leap m) d u v t (before leap m u v)) in
-      subst (λ (i : MonthAndDay). InYear leap (daysBefore leap m + d) (i .month) (i .day)) e p
+      subst (λ (i : MonthAndDay). OfOrdinal leap (daysBefore leap m + d) (i .month) (i .day)) e p
 
   -- a label that comes so is of a month, and a day of it, and comes within the year
-  pub in-year-valid : {o m d : ℕ} → InYear leap o m d → Month m × (1 ≤ d) × (d ≤ monthLength leap m)
+  pub in-year-valid : {o m d : ℕ} → OfOrdinal leap o m d → Month m × (1 ≤ d) × (d ≤ monthLength leap m)
   in-year-valid {o} {m} {d} p =
       let v : Valid (λ _. leap) (label (pos 0) m d) = subst (Valid (λ _. leap)) (after-stepping (λ _. leap) (o - 1) (label (pos 0) 1 1) ∙ p .comes (λ _. leap) (pos 0) refl)
       (after-valid (λ _. leap) (o - 1) (label (pos 0) 1 1) (first-valid (λ _. leap) (pos 0))) in
       ((v .month-from, v .month-to), v .day-from, v .day-to)
 
-  pub in-year-to : {o m d : ℕ} → InYear leap o m d → o ≤ yearLength leap
+  pub in-year-to : {o m d : ℕ} → OfOrdinal leap o m d → o ≤ yearLength leap
   unfolding after
   in-year-to {o} {m} {d} p = ⊎-elim (λ h. absurd (never h)) (λ h. h) (lt-or-ge (yearLength leap) o)
     where
@@ -182,7 +182,7 @@ month-of-length leap {m} {d} f t = (
 pub month-answer : {leap : Bool} {o m d : ℕ} → 1 ≤ o → o ≤ yearLength leap → MonthDayAt leap o m d → MonthDayOf leap o (MonthDay′.At m d)
 month-answer {leap} {o} {m} {d} f t p =
     let (v, u, w) = month-day-in f t p in
-    month-day (subst (λ (o : ℕ). InYear leap o m d) (p .day-is) (in-year-month leap m d v u w))
+    month-day (subst (λ (o : ℕ). OfOrdinal leap o m d) (p .day-is) (in-year-month leap m d v u w))
 
 module _ (leap : Bool) (m d : ℕ) {l : ℕ} (e : l ≡ monthLength leap m) (f : 1 ≤ d) (t : d ≤ l) where
   pub month-there : Month m

@@ -8,27 +8,27 @@ use native.Mathlib.Omega.{arith}
 use lib.IntN.{pos}
 use Rattle.whole.specs.Tests.{lt-or-ge}
 use Rattle.days.specs.DayByDay.{Label, label, _≺_, nextLabel, prevLabel, stepping}
-use Rattle.days.specs.Order.{≺-irrefl}
-use Rattle.days.specs.Steps.{after, after-stepping, after-sum}
-use Rattle.days.specs.Reckonings.{after-later}
-use Rattle.days.specs.Numbers.{daysBefore}
+use Rattle.days.specs.LabelOrder.{≺-irrefl}
+use Rattle.days.specs.ReckoningSteps.{after, after-stepping, after-sum}
+use Rattle.days.specs.ReckoningLabels.{after-later}
+use Rattle.days.specs.ClosedNumbers.{daysBefore}
 use Rattle.monthdays.specs.declared.MonthDay.{MonthDay}
 use Rattle.monthdays.specs.declared.DayOrdinal.{DayOrdinal}
 use Rattle.monthdays.specs.declared.DayOrdinal.the-variants as DayOrdinal′
-use Rattle.monthdays.specs.Promise.{InYear, MonthDayOf, month-day, no-month-day, OrdinalOf, ordinal, no-ordinal, MonthDayAt}
+use Rattle.monthdays.specs.Promise.{OfOrdinal, MonthDayOf, month-day, no-month-day, OrdinalOf, ordinal, no-ordinal, MonthDayAt}
 
 -- in any year of the kind an ordinal has one month and day, and they have one ordinal
-comes-in : {leap : Bool} {o m d : ℕ} → InYear leap o m d → stepping (nextLabel (λ _. leap)) (prevLabel (λ _. leap)) (label (pos 0) 1 1) (pos (o - 1)) ≡ label (pos 0) m d
+comes-in : {leap : Bool} {o m d : ℕ} → OfOrdinal leap o m d → stepping (nextLabel (λ _. leap)) (prevLabel (λ _. leap)) (label (pos 0) 1 1) (pos (o - 1)) ≡ label (pos 0) m d
 comes-in {leap} p = p .comes (λ _. leap) (pos 0) refl
 
-pub in-year-one : {leap : Bool} {o m d n e : ℕ} → InYear leap o m d → InYear leap o n e → (m ≡ n) × (d ≡ e)
+pub in-year-one : {leap : Bool} {o m d n e : ℕ} → OfOrdinal leap o m d → OfOrdinal leap o n e → (m ≡ n) × (d ≡ e)
 in-year-one p q =
     let s : label (pos 0) _ _ ≡ label (pos 0) _ _ = sym (comes-in p) ∙ comes-in q in
     (ap (λ (l : Label). l .month) s, ap (λ (l : Label). l .day) s)
 
 module _ {leap : Bool} {m d : ℕ} where
   -- a later ordinal has a later label
-  not-sooner : {o p : ℕ} → InYear leap o m d → InYear leap p m d → ¬ (o < p)
+  not-sooner : {o p : ℕ} → OfOrdinal leap o m d → OfOrdinal leap p m d → ¬ (o < p)
   not-sooner {o} {p} a b h = ≺-irrefl (subst (λ (l : Label). label (pos 0) m d ≺ l) same (after-later (λ _. leap) (p - 1 - o) (label (pos 0) m d)))
     where
       gap : o - 1 + suc (p - 1 - o) ≡ p - 1
@@ -39,7 +39,7 @@ module _ {leap : Bool} {m d : ℕ} where
           ∙ sym (after-sum (λ _. leap) (o - 1) (suc (p - 1 - o)) (label (pos 0) 1 1)) ∙ ap (λ (k : ℕ). after (λ _. leap) k (label (pos 0) 1 1)) gap
           ∙ after-stepping (λ _. leap) (p - 1) (label (pos 0) 1 1) ∙ comes-in b
 
-  pub in-year-ordinal : {o p : ℕ} → InYear leap o m d → InYear leap p m d → o ≡ p
+  pub in-year-ordinal : {o p : ℕ} → OfOrdinal leap o m d → OfOrdinal leap p m d → o ≡ p
   in-year-ordinal {o} {p} a b = ⊎-elim (λ h. absurd (not-sooner a b h)) (λ h. ⊎-elim (λ k. absurd (not-sooner b a k)) (λ k. omega arith) (lt-or-ge p o)) (lt-or-ge o p)
 
 pub month-day-one : {leap : Bool} {o : ℕ} {r s : MonthDay} → MonthDayOf leap o r → MonthDayOf leap o s → r ≡ s

@@ -4,7 +4,7 @@
 ghost use mathlib.Core.Path.{_≡_};
 ghost use Prim.Native.Nat.{_+_, _≤_};
 ghost use Rattle.days.specs.DayByDay.{monthLength, Month};
-ghost use Rattle.days.specs.Numbers.{daysBefore, toThirty};
+ghost use Rattle.days.specs.ClosedNumbers.{daysBefore, toThirty};
 ghost use Rattle.monthdays.specs.Promise.{MonthDayOf, OrdinalOf, MonthDayAt};
 
 pub enum MonthDay {

@@ -12,36 +12,36 @@ use lib.Signed.{_≤ℤ_}
 use Rattle.whole.specs.Tests.{lt-or-ge}
 use Rattle.whole.specs.Integers.{unbias-le}
 use Rattle.days.specs.DayByDay.{Label, label, Reckoning, labelOf, julian, gregorian, OfYear, OfMonth, Place, monthLength, Month}
-use Rattle.days.specs.Rising.{once, days-one}
-use Rattle.days.specs.Held.{dayBias, day, year, HeldYear}
-use Rattle.days.specs.Year.{yearLength, year-most}
-use Rattle.days.specs.Spans.{Stretch}
-use Rattle.days.specs.Starts.{Starts}
-use Rattle.days.specs.Julian as J
-use Rattle.days.specs.Gregorian as G
-use Rattle.days.specs.Numbers.{There, number, daysBefore, few-before}
-use Rattle.days.specs.Steps.{month-most}
-use Rattle.days.specs.Calendars.{accepted-rises, skipped-nowhere}
-use Rattle.days.specs.Runs.{Runs, top, julian-runs, gregorian-runs, firstDay, first-cases, first-julian, first-gregorian, julianMonth, gregorianMonth, monthFirst, monthPast, year-stretch, month-stretch, on-old, on-new}
-use Rattle.inner.specs.Natural.{heldYear}
+use Rattle.days.specs.RisingLabels.{once, days-one}
+use Rattle.days.specs.BiasedDays.{dayBias, day, year, BiasedYear}
+use Rattle.days.specs.ClosedYear.{yearLength, year-most}
+use Rattle.days.specs.RisingSpans.{Stretch}
+use Rattle.days.specs.ClosedStarts.{Starts}
+use Rattle.days.specs.ClosedJulian as J
+use Rattle.days.specs.ClosedGregorian as G
+use Rattle.days.specs.ClosedNumbers.{There, number, daysBefore, few-before}
+use Rattle.days.specs.ReckoningSteps.{month-most}
+use Rattle.days.specs.AcceptedCalendars.{accepted-rises, skipped-nowhere}
+use Rattle.days.specs.ClosedRuns.{Runs, top, julian-runs, gregorian-runs, firstDay, first-cases, first-julian, first-gregorian, julianMonth, gregorianMonth, monthFirst, monthPast, year-stretch, month-stretch, on-old, on-new}
+use Rattle.inner.specs.Natural.{biasedYear}
 use Rattle.calendar.specs.declared.Calendar.{Calendar}
 use Rattle.refusals.specs.declared.Refusal.{Refusal}
 use Rattle.calendar.specs.declared.Counted.the-variants as Counted′
 use Rattle.calendar.specs.declared.Told.the-variants as Told′
 use Rattle.calendar.specs.declared.Dated.{Dated}
 use Rattle.calendar.specs.declared.Dated.the-variants as Dated′
-use Rattle.calendar.specs.Calendars.{meant, labels}
+use Rattle.calendar.specs.Calendars.{definitionOf, labels}
 use Rattle.calendar.specs.Rows.{refuses, passes}
 use Rattle.calendar.specs.Promise.{Given, AtYmd, on-label}
 use Rattle.calendar.specs.Laws.{found-label, label-row, refused-row, refused-nowhere}
-use Rattle.changeover.specs.declared.MonthSpan.{MonthSpan}
-use Rattle.changeover.specs.declared.Spanned.{Spanned}
-use Rattle.changeover.specs.declared.Spanned.the-variants as Spanned′
+use Rattle.switches.specs.declared.MonthSpan.{MonthSpan}
+use Rattle.switches.specs.declared.Spanned.{Spanned}
+use Rattle.switches.specs.declared.Spanned.the-variants as Spanned′
 use Rattle.inner.specs.declared.Spot.{Spot}
-use Rattle.changeover.specs.declared.Found.the-variants as Found′
-use Rattle.changeover.specs.Spots as S
-use Rattle.changeover.specs.Spots.{YearSpan, SpansMonth, Finds}
-use Rattle.changeover.specs.Laws.{starts-close}
+use Rattle.switches.specs.declared.Found.the-variants as Found′
+use Rattle.switches.specs.Spots as S
+use Rattle.switches.specs.Spots.{YearSpan, SpansMonth, Finds}
+use Rattle.switches.specs.Laws.{starts-close}
 use Rattle.months.specs.Promise as P
 use Rattle.months.specs.Promise.{refusedNumber, OfAMonth, YearLengthOf, Len, first, no-first, last, no-last, FirstDayOf, LastDayOf, borne, not-borne, Contains, DayOrdinalOf, OffMonth, NthDay, nth-record, NthDate}
 use Rattle.months.specs.One.{label-of-month}
@@ -56,7 +56,7 @@ few-between r j g j′ g′ c u v = first-cases r j′ g′
     (λ h i e. first-cases r j g (λ k f. omega arith) (λ k l f. omega arith) (λ k l f. omega arith))
     (λ h i e. first-cases r j g (λ k f. omega arith) (λ k l f. omega arith) (λ k l f. omega arith))
 
-module _ (y : ℕ) (h : HeldYear y) where
+module _ (y : ℕ) (h : BiasedYear y) where
   julian-start-room : J.start y < 3_000_000_000_000
   julian-start-room = omega (arith, h .to)
 
@@ -101,7 +101,7 @@ module _ (y : ℕ) (h : HeldYear y) where
 next-start : {leapAt : ℕ → Bool} {start : ℕ → ℕ} {reckoning : Reckoning} → Starts reckoning leapAt start → (y : ℕ) → start (y + 1) ≤ start y + 366
 next-start {leapAt} {start} s y = let e : start (y + 1) ≡ start y + yearLength (leapAt y) = ap start (add-one y) ∙ s .start-next y in omega (arith, year-most (leapAt y))
 
-module _ (c : Calendar) {r y a b : ℕ} {z : ℤ} (runs : Runs (meant c) r) (h : HeldYear y) (e : year y ≡ z) (s : YearSpan r y a b) where
+module _ (c : Calendar) {r y a b : ℕ} {z : ℤ} (runs : Runs (definitionOf c) r) (h : BiasedYear y) (e : year y ≡ z) (s : YearSpan r y a b) where
   year-days : Stretch (labels c) (OfYear z) dayBias a b
   year-days = subst (λ (z : ℤ). Stretch (labels c) (OfYear z) dayBias a b) e (subst₂ (λ (a b : ℕ). Stretch (labels c) (OfYear (year y)) dayBias a b) (sym (s .first-is)) (sym (s .past-is)) (year-stretch runs y h))
 
@@ -118,7 +118,7 @@ module _ (c : Calendar) {r y a b : ℕ} {z : ℤ} (runs : Runs (meant c) r) (h :
 -- ---- A month
 
 -- its days in one reckoning
-module _ (y : ℕ) (h : HeldYear y) {m : ℕ} (v : Month m) (k : ℕ) where
+module _ (y : ℕ) (h : BiasedYear y) {m : ℕ} (v : Month m) (k : ℕ) where
   old-days : OfMonth (year y) m (labelOf julian (day k)) → (julianMonth y m ≤ k) × (k < julianMonth y m + monthLength (J.leapAt y) m)
   old-days p =
       let (a, b, q) = month-stretch julian-runs y h m (v .0) (v .1) .here k p in
@@ -155,8 +155,8 @@ module _ (leapAt : ℕ → Bool) (start : ℕ → ℕ) (y : ℕ) {m a : ℕ} (v 
 pub span-is : {c : Calendar} {z : ℤ} {m : ℕ} {s : MonthSpan} → Spans c z m (Spanned′.Month s) → SpanOf c z m s
 span-is (spanned p) = p
 
-pub span-made : (c : Calendar) {z : ℤ} {r y m : ℕ} {s : Spanned} → Runs (meant c) r → HeldYear y → year y ≡ z → SpansMonth r y m s → Spans c z m s
-span-made c {y = y} runs h e (S.spans-month v) = spanned (record { y = y; runs = runs; year-held = h; year-is = e; is-month = v; span = refl })
+pub span-made : (c : Calendar) {z : ℤ} {r y m : ℕ} {s : Spanned} → Runs (definitionOf c) r → BiasedYear y → year y ≡ z → SpansMonth r y m s → Spans c z m s
+span-made c {y = y} runs h e (S.spans-month v) = spanned (record { y = y; runs = runs; year-biased = h; year-is = e; is-month = v; span = refl })
 span-made c runs h e (S.no-month n) = no-month (runs .accepted) n
 
 pub span-refused : {A : Type 0} {c : Calendar} {z : ℤ} {m : ℕ} {f : Refusal} (refused : Refusal → A) {Below : A → Type 0} → Spans c z m (Spanned′.Refused f) → OfAMonth c m refused Below (refused f)
@@ -176,7 +176,7 @@ module _ (c : Calendar) {z : ℤ} {m : ℕ} (s : MonthSpan) (p : SpanOf c z m s)
   month-days : Stretch (labels c) (OfMonth z m) dayBias (s .first) (s .past)
   month-days = subst (λ (z : ℤ). Stretch (labels c) (OfMonth z m) dayBias (s .first) (s .past)) (p .year-is)
       (subst₂ (λ (a b : ℕ). Stretch (labels c) (OfMonth (year (p .y)) m) dayBias a b) (sym first-is) (sym past-is)
-      (month-stretch (p .runs) (p .y) (p .year-held) m (p .is-month .0) (p .is-month .1)))
+      (month-stretch (p .runs) (p .y) (p .year-biased) m (p .is-month .0) (p .is-month .1)))
 
   month-row : {A : Type 0} (refused : Refusal → A) {Below : A → Type 0} {a : A} → Below a → OfAMonth c m refused Below a
   month-row refused b = passes (p .runs .accepted) (passes (p .is-month) b)
@@ -185,10 +185,10 @@ module _ (c : Calendar) {z : ℤ} {m : ℕ} (s : MonthSpan) (p : SpanOf c z m s)
   span-ordered = month-days .ordered
 
   pub span-room : s .past < top
-  span-room = subst (λ (b : ℕ). b < top) (sym past-is) (past-room (p .y) (p .year-held) (p .is-month) (s .switch))
+  span-room = subst (λ (b : ℕ). b < top) (sym past-is) (past-room (p .y) (p .year-biased) (p .is-month) (s .switch))
 
   pub span-few : s .past - s .first < 2 ^ 32
-  span-few = subst₂ (λ (a b : ℕ). b - a < 2 ^ 32) (sym first-is) (sym past-is) (month-few (p .y) (p .year-held) (p .is-month) (s .switch))
+  span-few = subst₂ (λ (a b : ℕ). b - a < 2 ^ 32) (sym first-is) (sym past-is) (month-few (p .y) (p .year-biased) (p .is-month) (s .switch))
 
   -- a day of the month is one in its own reckoning
   module _ (k : ℕ) (from : s .first ≤ k) (to : k < s .past) where
@@ -199,10 +199,10 @@ module _ (c : Calendar) {z : ℤ} {m : ℕ} (s : MonthSpan) (p : SpanOf c z m s)
     of-month e = subst (OfMonth (year (p .y)) m) e (subst (λ (z : ℤ). OfMonth z m (labels c (day k))) (sym (p .year-is)) (month-days .inside k from to))
 
     old-in : k < s .switch → (julianMonth (p .y) m ≤ k) × (k < julianMonth (p .y) m + monthLength (J.leapAt (p .y)) m)
-    old-in h = old-days (p .y) (p .year-held) (p .is-month) k (of-month (p .runs .below k h room .0))
+    old-in h = old-days (p .y) (p .year-biased) (p .is-month) k (of-month (p .runs .below k h room .0))
 
     new-in : s .switch ≤ k → (s .gregorian ≤ k) × (k < s .gregorian + monthLength (G.leapAt (p .y)) m)
-    new-in h = subst (λ (a : ℕ). (a ≤ k) × (k < a + monthLength (G.leapAt (p .y)) m)) (sym gregorian-is) (new-days (p .y) (p .year-held) (p .is-month) k (of-month (p .runs .above k h room .0)))
+    new-in h = subst (λ (a : ℕ). (a ≤ k) × (k < a + monthLength (G.leapAt (p .y)) m)) (sym gregorian-is) (new-days (p .y) (p .year-biased) (p .is-month) k (of-month (p .runs .above k h room .0)))
 
     pub inside : Inside s k
     inside = record {
@@ -223,12 +223,12 @@ module _ (c : Calendar) {z : ℤ} {m : ℕ} (s : MonthSpan) (p : SpanOf c z m s)
     label-in = ⊎-elim
         (λ h. let n = day-number J.leapAt J.start (p .y) (p .is-month) (begins-old h) k from in
         subst₂ (λ (i d : ℕ). labels c (day i) ≡ label z m d) n (sym (simp (lt-ltb k (s .switch) h)))
-        (on-old (p .runs) (p .y) m (k + 1 - s .first) (p .year-is) (p .year-held)
+        (on-old (p .runs) (p .y) m (k + 1 - s .first) (p .year-is) (p .year-biased)
         (day-there J.leapAt J.start (p .y) (p .is-month) (begins-old h) k from (subst (λ (a : ℕ). k < a + monthLength (J.leapAt (p .y)) m) (sym (begins-old h)) (old-in h .1))) (subst (λ (i : ℕ). i < s .switch) (sym n) h)))
         (λ h. let (a, b) = new-in h in
         let n = day-number G.leapAt G.start (p .y) (p .is-month) gregorian-is k a in
         subst₂ (λ (i d : ℕ). labels c (day i) ≡ label z m d) n (sym (simp (le-ltb k (s .switch) h)))
-        (on-new (p .runs) (p .y) m (k + 1 - s .gregorian) (p .year-is) (p .year-held) (day-there G.leapAt G.start (p .y) (p .is-month) gregorian-is k a b) (subst (λ (i : ℕ). s .switch ≤ i) (sym n) h)))
+        (on-new (p .runs) (p .y) m (k + 1 - s .gregorian) (p .year-is) (p .year-biased) (day-there G.leapAt G.start (p .y) (p .is-month) gregorian-is k a b) (subst (λ (i : ℕ). s .switch ≤ i) (sym n) h)))
         (lt-or-ge k (s .switch))
 
   -- ---- lengths, and the first and the last day
@@ -256,9 +256,9 @@ module _ (c : Calendar) {z : ℤ} {m : ℕ} (s : MonthSpan) (p : SpanOf c z m s)
       (λ n o. let (k, w, a, b) = month-days .only n o in subst (λ (n : ℤ). n ≤ℤ day (s .past - 1)) (sym w) (unbias-le dayBias k (s .past - 1) (omega arith)))))
 
   -- ---- a label of the month
-  module _ {x d : ℕ} (h : HeldYear (heldYear x)) (e : year (heldYear x) ≡ z) where
+  module _ {x d : ℕ} (h : BiasedYear (biasedYear x)) (e : year (biasedYear x) ≡ z) where
     pub borne-row : {i : Spot} → Finds (s .switch) x m d (Found′.At i) → Contains c z m d (Told′.Is true)
-    borne-row {i} f = month-row Told′.Refused (borne (day (i .held), found-label c (p .runs) h e f))
+    borne-row {i} f = month-row Told′.Refused (borne (day (i .biased), found-label c (p .runs) h e f))
 
     pub nowhere-row : {r : Refusal} → Finds (s .switch) x m d (Found′.Refused r) → Contains c z m d (Told′.Is false)
     nowhere-row f = month-row Told′.Refused (not-borne (refused-nowhere c (p .runs) h e f))
@@ -267,24 +267,24 @@ module _ (c : Calendar) {z : ℤ} {m : ℕ} (s : MonthSpan) (p : SpanOf c z m s)
     refused-place f = month-row Counted′.Refused (refused-row c (p .runs) h e Counted′.Refused f)
 
     module _ {i : Spot} (f : Finds (s .switch) x m d (Found′.At i)) where
-      found-place : (s .first ≤ i .held) × (i .held < s .past) × Place (λ n. OfMonth z m (labels c n)) (day (i .held)) (i .held + 1 - s .first)
-      found-place = month-days .here (i .held) (label-of-month (found-label c (p .runs) h e f))
+      found-place : (s .first ≤ i .biased) × (i .biased < s .past) × Place (λ n. OfMonth z m (labels c n)) (day (i .biased)) (i .biased + 1 - s .first)
+      found-place = month-days .here (i .biased) (label-of-month (found-label c (p .runs) h e f))
 
       -- what it asks of the machine
-      pub found-from : s .first ≤ i .held + 1
+      pub found-from : s .first ≤ i .biased + 1
       found-from = omega (arith, found-place .0)
 
-      pub found-room : i .held < top
+      pub found-room : i .biased < top
       found-room = omega (arith, found-place .1, span-room)
 
-      pub found-few : i .held + 1 - s .first < 2 ^ 32
+      pub found-few : i .biased + 1 - s .first < 2 ^ 32
       found-few = omega (arith, found-place .1, span-few)
 
-      pub place-row : DayOrdinalOf c z m d (Counted′.Number (i .held + 1 - s .first))
+      pub place-row : DayOrdinalOf c z m d (Counted′.Number (i .biased + 1 - s .first))
       place-row =
-          let l : labels c (day (i .held)) ≡ label z m d = found-label c (p .runs) h e f in
+          let l : labels c (day (i .biased)) ≡ label z m d = found-label c (p .runs) h e f in
           month-row Counted′.Refused (label-row c (p .runs) h e Counted′.Refused f
-          (P.number (day (i .held), l, subst (λ (l : Label). Place (λ n. OfMonth (l .year) (l .month) (labels c n)) (day (i .held)) (i .held + 1 - s .first)) (sym l) (found-place .2))))
+          (P.number (day (i .biased), l, subst (λ (l : Label). Place (λ n. OfMonth (l .year) (l .month) (labels c n)) (day (i .biased)) (i .biased + 1 - s .first)) (sym l) (found-place .2))))
 
   -- ---- the k-th day
   module _ (k : ℕ) where

@@ -1,25 +1,25 @@
--- What the private functions say, of days and years that are held as naturals.
+-- What the private functions say, of days and years that are biased as naturals.
 use mathlib.Core.Path.{_≡_}
 use mathlib.Core.Bool.{cond}
 use Prim.Native.Nat.{ℕ, _+_, _-_, _≤_, _<_, _^_}
 use lib.Dec.{ltb}
 use lib.IntN.{ℤ, pos}
-use Rattle.days.specs.Held.{year, HeldYear}
-use Rattle.days.specs.Runs.{Runs, top}
+use Rattle.days.specs.BiasedDays.{year, BiasedYear}
+use Rattle.days.specs.ClosedRuns.{Runs, top}
 use Rattle.days.specs.DayByDay.{Month}
-use Rattle.changeover.specs.declared.MonthSpan.{MonthSpan}
-use Rattle.changeover.specs.declared.Spanned.{Spanned}
-use Rattle.changeover.specs.declared.Spanned.the-variants as Spanned′
-use Rattle.changeover.specs.Spots.{monthSpan}
+use Rattle.switches.specs.declared.MonthSpan.{MonthSpan}
+use Rattle.switches.specs.declared.Spanned.{Spanned}
+use Rattle.switches.specs.declared.Spanned.the-variants as Spanned′
+use Rattle.switches.specs.Spots.{monthSpan}
 use Rattle.calendar.specs.declared.Calendar.{Calendar}
-use Rattle.calendar.specs.Calendars.{meant, Accepted}
+use Rattle.calendar.specs.Calendars.{definitionOf, Accepted}
 use Rattle.calendar.specs.Promise.{refusal, made-up}
 
 -- the month m of the year z of an accepted calendar
 pub record SpanOf (c : Calendar) (z : ℤ) (m : ℕ) (s : MonthSpan) : Type 0 where
   pub y : ℕ
-  pub runs : Runs (meant c) (s .switch)
-  pub year-held : HeldYear y
+  pub runs : Runs (definitionOf c) (s .switch)
+  pub year-biased : BiasedYear y
   pub year-is : year y ≡ z
   pub is-month : Month m
   pub span : s ≡ monthSpan (s .switch) y m
@@ -30,7 +30,7 @@ pub data Spans (c : Calendar) (z : ℤ) (m : ℕ) : Spanned → Type 0 where
   no-calendar : ¬ Accepted c → Spans c z m (Spanned′.Refused made-up)
   no-month : Accepted c → ¬ Month m → Spans c z m (Spanned′.Refused (refusal 3 (pos m)))
 
--- a held day is of the month, and in the Gregorian one where it is not before the day on which the calendar goes over
+-- a biased day is of the month, and in the Gregorian one where it is not before the day on which the calendar goes over
 pub record Inside (s : MonthSpan) (k : ℕ) : Type 0 where
   pub from : s .first ≤ k
   pub few : k + 1 - s .first < 2 ^ 32

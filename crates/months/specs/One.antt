@@ -5,8 +5,8 @@ use Prim.Native.Nat.{ℕ}
 use lib.IntN.{ℤ}
 use Rattle.whole.specs.Integers.{antisym}
 use Rattle.days.specs.DayByDay.{Label, label, OfMonth, Rises, DayOrdinal}
-use Rattle.days.specs.Rising.{once, place-one, nth-one, days-one}
-use Rattle.days.specs.Calendars.{accepted-rises}
+use Rattle.days.specs.RisingLabels.{once, place-one, nth-one, days-one}
+use Rattle.days.specs.AcceptedCalendars.{accepted-rises}
 use Rattle.calendar.specs.declared.Calendar.{Calendar}
 use Rattle.refusals.specs.declared.Refusal.{Refusal}
 use Rattle.calendar.specs.declared.Counted.the-variants as Counted′

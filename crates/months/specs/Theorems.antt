@@ -13,21 +13,21 @@ use Rattle.whole.specs.Tests as N
 use mir.Facts.{leb-yes}
 use Rattle.whole.specs.Integers.{lt-or-ge, lt-le, le-trans, antisym, back-le, back-lt, none-between}
 use Rattle.days.specs.DayByDay.{Label, label, by-month, Rises, monthLength, Is32Bit, gregorian-accepted, Borne, OfMonth, Place, DayOrdinal, Days, YearLength, MonthLength, Month}
-use Rattle.days.specs.Order.{≺-month}
-use Rattle.days.specs.Rising.{up-back, year-run, here, days-one, place-one, nth-within}
-use Rattle.days.specs.Spans.{Proper}
-use Rattle.days.specs.Calendars.{accepted-rises, labels-proper, skipped-nowhere}
-use Rattle.days.specs.Gregorian as G
-use Rattle.days.specs.Held.{HeldYear}
-use Rattle.days.specs.Numbers.{There}
-use Rattle.days.specs.Runs.{gregorian-runs, on-new, day-ordinal-at}
+use Rattle.days.specs.LabelOrder.{≺-month}
+use Rattle.days.specs.RisingLabels.{up-back, year-run, here, days-one, place-one, nth-within}
+use Rattle.days.specs.RisingSpans.{Proper}
+use Rattle.days.specs.AcceptedCalendars.{accepted-rises, labels-proper, skipped-nowhere}
+use Rattle.days.specs.ClosedGregorian as G
+use Rattle.days.specs.BiasedDays.{BiasedYear}
+use Rattle.days.specs.ClosedNumbers.{There}
+use Rattle.days.specs.ClosedRuns.{gregorian-runs, on-new, day-ordinal-at}
 use Rattle.calendar.specs.declared.Calendar.{Calendar}
 use Rattle.calendar.specs.declared.Calendar.the-variants.{Gregorian}
 use Rattle.calendar.specs.declared.Date.{Date}
 use Rattle.calendar.specs.declared.Counted.the-variants as Counted′
 use Rattle.calendar.specs.declared.Dated.{Dated}
 use Rattle.calendar.specs.declared.Dated.the-variants as Dated′
-use Rattle.calendar.specs.Calendars.{meant, labels, Accepted, Skipped}
+use Rattle.calendar.specs.Calendars.{definitionOf, labels, Accepted, Skipped}
 use Rattle.calendar.specs.Rows.{Unless, If, refuses, passes}
 use Rattle.calendar.specs.Promise.{Missing, Given, record-of, refused, AtYmd, on-label}
 use Rattle.calendar.specs.One.{at-ymd-one}
@@ -166,7 +166,7 @@ year-of-months {f} up good y k all = subst (YearLength f y) same (same-days (λ 
 
 -- so what `len` answers for the months of a year adds up to what `year_length` answers
 pub lengths-add-up : (c : Calendar) (y : ℤ) (k : ℕ → ℕ) {t : ℕ} → ((m : ℕ) → Month m → Len c y m (Counted′.Number (k m))) → YearLengthOf c y (Counted′.Number t) → t ≡ twelveMonths k
-lengths-add-up c y k all (passes a (number p)) = days-one p (year-of-months (accepted-rises a) (labels-proper (meant c)) y k (λ m v. is-len (all m v)))
+lengths-add-up c y k all (passes a (number p)) = days-one p (year-of-months (accepted-rises a) (labels-proper (definitionOf c)) y k (λ m v. is-len (all m v)))
   where
     is-len : {m n : ℕ} → Len c y m (Counted′.Number n) → MonthLength (labels c) y m n
     is-len (passes a (passes v (number p))) = p
@@ -215,8 +215,8 @@ module _ (c : Calendar) (y : ℤ) (m : ℕ) where
       place-one (p .day-ordinal-is) (subst₂ (λ (z : ℤ) (i : ℕ). Place (λ j. OfMonth z i (labels c j)) n k) (sym (g .of-month .0)) (sym (g .of-month .1)) (g .place))
 
 -- ---- The first day past 32 bits is the fourth day of Gregorian June 5874898: `nth_date` refuses it 7
-held : HeldYear 2_153_358_898
-held = record { from = omega arith; to = omega arith }
+biased : BiasedYear 2_153_358_898
+biased = record { from = omega arith; to = omega arith }
 
 fourth-there : There G.leapAt 2_153_358_898 6 4
 unfolding monthLength
@@ -227,11 +227,11 @@ past-32-bits f = let h : 2_147_483_648 < 0 + 2 ^ 31 = unbias-fits-only 0 2_147_4
 
 fourth-label : labels Gregorian (pos 2_147_483_648) ≡ label (pos 5_874_898) 6 4
 unfolding monthLength
-fourth-label = on-new gregorian-runs 2_153_358_898 6 4 refl held fourth-there (leb-yes tt)
+fourth-label = on-new gregorian-runs 2_153_358_898 6 4 refl biased fourth-there (leb-yes tt)
 
 fourth-place : DayOrdinal (labels Gregorian) (pos 2_147_483_648) 4
 unfolding monthLength
-fourth-place = day-ordinal-at gregorian-runs 786_514_293_590 2_153_358_898 6 4 held fourth-label (omega arith) (omega arith)
+fourth-place = day-ordinal-at gregorian-runs 786_514_293_590 2_153_358_898 6 4 biased fourth-label (omega arith) (omega arith)
 
 fourth-borne : Borne (labels Gregorian) (label (pos 5_874_898) 6 4)
 fourth-borne = (pos 2_147_483_648, fourth-label)

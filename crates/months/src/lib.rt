@@ -12,12 +12,12 @@ use calendar::Dated;
 use calendar::Switch;
 use calendar::Told;
 use calendar::switch_of;
-use changeover::Found;
-use changeover::MonthSpan;
-use changeover::Spanned;
-use changeover::find;
-use changeover::month_span;
-use changeover::year_span;
+use switches::Found;
+use switches::MonthSpan;
+use switches::Spanned;
+use switches::find;
+use switches::month_span;
+use switches::year_span;
 use refusals::refusal_with;
 use whole::raised;
 
@@ -97,7 +97,7 @@ pub fn day_ordinal(calendar: Calendar, year: i32, month: u32, day: u32) -> Count
     match span_of(calendar, year, month) {
         Spanned::Refused(refusal) => Counted::Refused(refusal),
         Spanned::Month(s) => match find(s.switch, raised(year), month, day) {
-            Found::At(spot) => Counted::Number((spot.held + 1 - s.first) as u32),
+            Found::At(spot) => Counted::Number((spot.biased + 1 - s.first) as u32),
             Found::Refused(refusal) => Counted::Refused(refusal),
         },
     }
@@ -113,11 +113,11 @@ pub fn nth_day(calendar: Calendar, year: i32, month: u32, k: u32) -> Counted
             if k < 1 {
                 return Counted::Refused(refusal_with(21, k));
             }
-            let held = s.first + k as u64 - 1;
-            if s.past <= held {
+            let biased = s.first + k as u64 - 1;
+            if s.past <= biased {
                 return Counted::Refused(refusal_with(21, k));
             }
-            Counted::Number(day_in(s, held))
+            Counted::Number(day_in(s, biased))
         }
     }
 }
@@ -145,12 +145,12 @@ fn span_of(calendar: Calendar, year: i32, month: u32) -> Spanned
 
 // The day of the month that a day of the month has. A month with a Julian day begins in that reckoning, so such a day has its place in it;
 // a Gregorian one counts from the month's first Gregorian day.
-fn day_in(s: MonthSpan, held: u64) -> u32
-    requires { ⌜ Inside s held ⌝ }
-    ensures { λ d. ⌜ d ≡ dayIn s held ⌝ }
+fn day_in(s: MonthSpan, biased: u64) -> u32
+    requires { ⌜ Inside s biased ⌝ }
+    ensures { λ d. ⌜ d ≡ dayIn s biased ⌝ }
 {
-    if held < s.switch {
-        return (held + 1 - s.first) as u32;
+    if biased < s.switch {
+        return (biased + 1 - s.first) as u32;
     }
-    (held + 1 - s.gregorian) as u32
+    (biased + 1 - s.gregorian) as u32
 }

@@ -13,11 +13,11 @@ use mir.Facts.{and-yes}
 use Rattle.whole.specs.Tests.{true-or-false}
 use Rattle.calendar.specs.Rows.{refuses, passes}
 use Rattle.calendar.specs.declared.Calendar.{Calendar}
-use Rattle.calendar.specs.declared.Reformed.the-variants as Reformed′
+use Rattle.calendar.specs.declared.Chosen.the-variants as Chosen′
 use Rattle.ncal.specs.declared.Found.{Found}
 use Rattle.ncal.specs.declared.Found.the-variants as Found′
 use Rattle.ncal.specs.Every.{eqList, eq-list, list-eq}
-use Rattle.ncal.specs.Table.{Row, row, table}
+use Rattle.ncal.specs.Table.{NameRow, row, table}
 use Rattle.ncal.specs.Promise.{NamesCalendar, unknownName, of-row}
 use Rattle.ncal.specs.Search.{orRow, orRows, among, ofLength}
 
@@ -31,26 +31,26 @@ equal s t e = subst (λ (u : List ℕ). eqList s u ≡ true) e (list-eq s)
 same-or-other : (s t : List ℕ) → (s ≡ t) ⊎ ¬ (s ≡ t)
 same-or-other s t = ⊎-elim (λ e. inl (eq-list s t (subst T (sym e) tt))) (λ e. inr (λ q. subst T e (subst T (sym (equal s t q)) tt))) (true-or-false (eqList s t))
 
-pub own-row : (s : List ℕ) (r : Row) → s ≡ r .name → orRow s Found′.Nothing r ≡ Found′.Calendar (r .calendar)
+pub own-row : (s : List ℕ) (r : NameRow) → s ≡ r .name → orRow s Found′.Nothing r ≡ Found′.Calendar (r .calendar)
 unfolding orRow
 own-row s r e = rw (equal s (r .name) e)
 
-pub other-row : (s : List ℕ) (f : Found) (r : Row) → ¬ (s ≡ r .name) → orRow s f r ≡ f
+pub other-row : (s : List ℕ) (f : Found) (r : NameRow) → ¬ (s ≡ r .name) → orRow s f r ≡ f
 unfolding orRow
 other-row s (Found′.Calendar c) r n = refl
 other-row s Found′.Nothing r n = ⊎-elim (λ e. absurd (n (eq-list s (r .name) (subst T (sym e) tt)))) (λ e. rw e) (true-or-false (eqList s (r .name)))
 
-found-stays : (s : List ℕ) (c : Calendar) (rows : List Row) → orRows s (Found′.Calendar c) rows ≡ Found′.Calendar c
+found-stays : (s : List ℕ) (c : Calendar) (rows : List NameRow) → orRows s (Found′.Calendar c) rows ≡ Found′.Calendar c
 unfolding orRow
 found-stays s c [] = refl
 found-stays s c (r ∷ rows) = found-stays s c rows
 
 -- one row after the others
-pub after : (s : List ℕ) (r : Row) {f g h : Found} → h ≡ orRow s g r → g ≡ f → h ≡ orRow s f r
+pub after : (s : List ℕ) (r : NameRow) {f g h : Found} → h ≡ orRow s g r → g ≡ f → h ≡ orRow s f r
 after s r e d = e ∙ ap (λ (f : Found). orRow s f r) d
 
 -- ---- Rows of the name's length alone
-same-length : (s : List ℕ) (f : Found) (rows : List Row) → orRows s f (ofLength (length s) rows) ≡ orRows s f rows
+same-length : (s : List ℕ) (f : Found) (rows : List NameRow) → orRows s f (ofLength (length s) rows) ≡ orRows s f rows
 same-length s f [] = refl
 same-length s f (r ∷ rows) = ⊎-elim
     (λ e. picked true e ∙ same-length s (orRow s f r) rows)
@@ -79,42 +79,42 @@ none-of l [] h = refl
 none-of l (n ∷ ns) (h, d) = rw (ne-eqb l n d) (none-of l ns h)
 
 -- each row's name has one of these lengths
-abbrev pub lengthsIn : List ℕ → List Row → Bool
+abbrev pub lengthsIn : List ℕ → List NameRow → Bool
 lengthsIn ns [] = true
 lengthsIn ns (r ∷ rows) = isOne (length (r .name)) ns && lengthsIn ns rows
 
-no-row : (l : ℕ) (ns : List ℕ) → isOne l ns ≡ false → (rows : List Row) → T (lengthsIn ns rows) → ofLength l rows ≡ []
+no-row : (l : ℕ) (ns : List ℕ) → isOne l ns ≡ false → (rows : List NameRow) → T (lengthsIn ns rows) → ofLength l rows ≡ []
 no-row l ns e [] t = refl
 no-row l ns e (r ∷ rows) t =
     let (a, b) = and-yes (isOne (length (r .name)) ns) _ t in
     rw (ne-eqb (length (r .name)) l (λ q. subst T e (subst (λ (m : ℕ). T (isOne m ns)) q a))) (no-row l ns e rows b)
 
 pub in-no-group : (s ns : List ℕ) → T (lengthsIn ns table) → NoneOf (length s) ns → Found′.Nothing ≡ among s table
-in-no-group s ns t h = ap (λ (rows : List Row). among s rows) (sym (no-row (length s) ns (none-of (length s) ns h) table t)) ∙ same-length s Found′.Nothing table
+in-no-group s ns t h = ap (λ (rows : List NameRow). among s rows) (sym (no-row (length s) ns (none-of (length s) ns h) table t)) ∙ same-length s Found′.Nothing table
 
 -- ---- What is found is promised
 module _ (s : List ℕ) where
-  found-first : (r : Row) (rows : List Row) → s ≡ r .name → among s (r ∷ rows) ≡ Found′.Calendar (r .calendar)
+  found-first : (r : NameRow) (rows : List NameRow) → s ≡ r .name → among s (r ∷ rows) ≡ Found′.Calendar (r .calendar)
   found-first r rows e = ap (λ (f : Found). orRows s f rows) (own-row s r e) ∙ found-stays s (r .calendar) rows
 
-  found-later : (r : Row) (rows : List Row) → ¬ (s ≡ r .name) → among s (r ∷ rows) ≡ among s rows
+  found-later : (r : NameRow) (rows : List NameRow) → ¬ (s ≡ r .name) → among s (r ∷ rows) ≡ among s rows
   found-later r rows n = ap (λ (f : Found). orRows s f rows) (other-row s Found′.Nothing r n)
 
-  found-in : (c : Calendar) (rows : List Row) → among s rows ≡ Found′.Calendar c → List·Memᴰ (row s c) rows
+  found-in : (c : Calendar) (rows : List NameRow) → among s rows ≡ Found′.Calendar c → List·Memᴰ (row s c) rows
   found-in c [] e = let z : _≡_ {A = ℕ} 0 1 = cc in absurd (nought z)
   found-in c (r ∷ rows) e = ⊎-elim
       (λ q. let i : c ≡ r .calendar = cc (found-first r rows q) in List·Memᴰ·head (ap₂ row q i))
       (λ n. List·Memᴰ·tail (found-in c rows (sym (found-later r rows n) ∙ e)))
       (same-or-other s (r .name))
 
-  not-in : {c : Calendar} (rows : List Row) → among s rows ≡ Found′.Nothing → List·Memᴰ (row s c) rows → ⊥
+  not-in : {c : Calendar} (rows : List NameRow) → among s rows ≡ Found′.Nothing → List·Memᴰ (row s c) rows → ⊥
   not-in [] e m = List·Memᴰ·not-nil m
   not-in (r ∷ rows) e m = ⊎-elim
       (λ q. let z : _≡_ {A = ℕ} 0 1 = cc (found-first r rows q) in nought z)
-      (λ n. ⊎-elim (λ w. n (ap (λ (t : Row). t .name) w)) (λ w. not-in rows (sym (found-later r rows n) ∙ e) w) (List·Memᴰ·cases-cons m))
+      (λ n. ⊎-elim (λ w. n (ap (λ (t : NameRow). t .name) w)) (λ w. not-in rows (sym (found-later r rows n) ∙ e) w) (List·Memᴰ·cases-cons m))
       (same-or-other s (r .name))
 
-pub is-named : (s : List ℕ) {c : Calendar} → Found′.Calendar c ≡ among s table → NamesCalendar s (Reformed′.Calendar c)
+pub is-named : (s : List ℕ) {c : Calendar} → Found′.Calendar c ≡ among s table → NamesCalendar s (Chosen′.Calendar c)
 is-named s {c} e = let m = found-in s c table (sym e) in passes (c, m) (of-row m)
 
 pub not-named : (s : List ℕ) → Found′.Nothing ≡ among s table → NamesCalendar s unknownName

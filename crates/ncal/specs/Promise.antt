@@ -6,8 +6,8 @@ use lib.IntN.{pos}
 use Rattle.calendar.specs.Rows.{Unless}
 use Rattle.calendar.specs.Promise.{refusal}
 use Rattle.calendar.specs.declared.Calendar.{Calendar}
-use Rattle.calendar.specs.declared.Reformed.{Reformed}
-use Rattle.calendar.specs.declared.Reformed.the-variants as Reformed′
+use Rattle.calendar.specs.declared.Chosen.{Chosen}
+use Rattle.calendar.specs.declared.Chosen.the-variants as Chosen′
 use Rattle.ncal.specs.Table.{row, table}
 
 -- the table has a row with this name and this calendar
@@ -19,12 +19,12 @@ abbrev pub Known : List ℕ → Type 0
 Known s = (c : Calendar) × InTable s c
 
 -- the calendar of the row with the name
-pub data OfRow (s : List ℕ) : Reformed → Type 0 where
-  of-row : {c : Calendar} → InTable s c → OfRow s (Reformed′.Calendar c)
+pub data OfRow (s : List ℕ) : Chosen → Type 0 where
+  of-row : {c : Calendar} → InTable s c → OfRow s (Chosen′.Calendar c)
 
-abbrev pub unknownName : Reformed
-unknownName = Reformed′.Refused (refusal 19 (pos 0))
+abbrev pub unknownName : Chosen
+unknownName = Chosen′.Refused (refusal 19 (pos 0))
 
 -- named: 19, or the calendar
-abbrev pub NamesCalendar : List ℕ → Reformed → Type 0
+abbrev pub NamesCalendar : List ℕ → Chosen → Type 0
 NamesCalendar s = Unless (Known s) unknownName (OfRow s)

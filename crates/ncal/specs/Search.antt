@@ -7,7 +7,7 @@ use lib.Dec.{eqb}
 use lib.ListN.{length}
 use Rattle.ncal.specs.declared.Found.{Found}
 use Rattle.ncal.specs.declared.Found.the-variants as Found′
-use Rattle.ncal.specs.Table.{Row}
+use Rattle.ncal.specs.Table.{NameRow}
 use Rattle.ncal.specs.Every.{eqList}
 
 -- the answer b to the question whether P
@@ -16,19 +16,19 @@ Says P true = P
 Says P false = ¬ P
 
 -- one row more: what was found before it stays
-unfoldable pub orRow : List ℕ → Found → Row → Found
+unfoldable pub orRow : List ℕ → Found → NameRow → Found
 orRow s (Found′.Calendar c) r = Found′.Calendar c
 orRow s Found′.Nothing r = cond (eqList s (r .name)) (Found′.Calendar (r .calendar)) Found′.Nothing
 
-abbrev pub orRows : List ℕ → Found → List Row → Found
+abbrev pub orRows : List ℕ → Found → List NameRow → Found
 orRows s f [] = f
 orRows s f (r ∷ rows) = orRows s (orRow s f r) rows
 
 -- what the name s is among the rows
-abbrev pub among : List ℕ → List Row → Found
+abbrev pub among : List ℕ → List NameRow → Found
 among s rows = orRows s Found′.Nothing rows
 
 -- the rows whose name has n letters
-abbrev pub ofLength : ℕ → List Row → List Row
+abbrev pub ofLength : ℕ → List NameRow → List NameRow
 ofLength n [] = []
 ofLength n (r ∷ rows) = cond (eqb (length (r .name)) n) (r ∷ ofLength n rows) (ofLength n rows)

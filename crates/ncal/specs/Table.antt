@@ -9,22 +9,22 @@ use Rattle.calendar.specs.declared.Calendar.{Calendar}
 use Rattle.calendar.specs.declared.Calendar.the-variants.{Julian, Gregorian, Reforming}
 
 -- a row: a name in bytes, and its calendar
-pub record Row : Type 0 where
+pub record NameRow : Type 0 where
   pub name : List ℕ
   pub calendar : Calendar
 
-abbrev pub row : List ℕ → Calendar → Row
+abbrev pub row : List ℕ → Calendar → NameRow
 row s c = record { name = s; calendar = c }
 
 infix 90 _is_
-abbrev pub _is_ : String → Calendar → Row
+abbrev pub _is_ : String → Calendar → NameRow
 s is c = row (bytes s) c
 
 infix 90 _from_
-abbrev pub _from_ : String → ℕ → Row
+abbrev pub _from_ : String → ℕ → NameRow
 s from r = s is Reforming (pos r)
 
-unfoldable pub table : List Row
+unfoldable pub table : List NameRow
 table =
     "JULIAN" is Julian
     ∷ "GREGORIAN" is Gregorian

@@ -6,7 +6,7 @@ ghost use Rattle.ncal.specs.Table.{row, table};
 ghost use Rattle.ncal.specs.Promise.{NamesCalendar};
 ghost use Rattle.ncal.specs.Search.{Says, orRow, among, ofLength};
 use calendar::Calendar;
-use calendar::Reformed;
+use calendar::Chosen;
 use calendar::refusal_of;
 
 // ---- For each country the calendar that is reforming at its first Gregorian day, with that date and the last Julian one
@@ -116,12 +116,12 @@ pub const YUGOSLAVIA: Calendar = Calendar::Reforming(2_422_036);
 // ---- The names
 
 // The calendar of a name, in capitals.
-pub fn named(name: &[u8]) -> Reformed
+pub fn named(name: &[u8]) -> Chosen
     ensures { λ a. ⌜ NamesCalendar (now (name .entry)) a ⌝ }
 {
     match by_length(name) {
-        Found::Calendar(c) => Reformed::Calendar(c),
-        Found::Nothing => Reformed::Refused(refusal_of(19, 0)),
+        Found::Calendar(c) => Chosen::Calendar(c),
+        Found::Nothing => Chosen::Refused(refusal_of(19, 0)),
     }
 }
 

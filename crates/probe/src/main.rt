@@ -13,7 +13,7 @@ use calendar::Date;
 use calendar::Dated;
 use calendar::ReformDate;
 use calendar::ReformDay;
-use calendar::Reformed;
+use calendar::Chosen;
 use query::Head;
 use query::Numbers;
 use reply::Reply;
@@ -47,10 +47,10 @@ fn reformation(calendar: Calendar) -> Reply {
     ref_date(d, calendar.first_gregorian_date())
 }
 
-fn name(answer: Reformed) -> Reply {
+fn name(answer: Chosen) -> Reply {
     match answer {
-        Reformed::Refused(why) => reply::refused(why),
-        Reformed::Calendar(calendar) => reply::calendar(reply::none(), calendar),
+        Chosen::Refused(why) => reply::refused(why),
+        Chosen::Calendar(calendar) => reply::calendar(reply::none(), calendar),
     }
 }
 

@@ -2,7 +2,7 @@
 use calendar::Calendar;
 use calendar::Date;
 use calendar::Dated;
-use calendar::Reformed;
+use calendar::Chosen;
 use calendar::Refusal;
 use numbertext::Number;
 use numbertext::SignedNumber;
@@ -90,10 +90,10 @@ pub fn numbers_at(line: &[u8], at: usize) -> Numbers {
 
 // ---- Calendars and dates
 
-fn reformed(answer: Reformed, next: usize) -> Head {
+fn reformed(answer: Chosen, next: usize) -> Head {
     match answer {
-        Reformed::Calendar(calendar) => Head::Calendar(calendar, next),
-        Reformed::Refused(why) => Head::Refused(why),
+        Chosen::Calendar(calendar) => Head::Calendar(calendar, next),
+        Chosen::Refused(why) => Head::Refused(why),
     }
 }
 

@@ -1,4 +1,4 @@
--- From seconds that are held as naturals, counted from the start of the lowest day, to the day of a time; and from that to the promises.
+-- From seconds that are biased as naturals, counted from the start of the lowest day, to the day of a time; and from that to the promises.
 -- Assumes nothing.
 use mathlib.Core.Path.{_≡_, sym, _∙_, ap, subst}
 use mathlib.Core.Logic.{⊎-elim}
@@ -37,20 +37,20 @@ seconds-in b k = ⊎-elim
     rest : (b k : ℕ) → b ≤ k → (k - b) * 86_400 ≡ k * 86_400 - b * 86_400
     rest b k h = omega arith
 
--- the time of a day that is held with a bias b, and seconds into it
+-- the time of a day that is biased with a bias b, and seconds into it
 pub time-of : (b k s : ℕ) → (unbias b k -ℤ pos 2_440_588) *ℤ pos 86_400 +ℤ pos s ≡ unbias ((b + 2_440_588) * 86_400) (k * 86_400 + s)
 time-of b k s =
     ap (λ (z : ℤ). z *ℤ pos 86_400 +ℤ pos s) (unbias-more b 2_440_588 k)
     ∙ ap (λ (z : ℤ). z +ℤ pos s) (seconds-in (b + 2_440_588) k)
     ∙ sym (unbias-add ((b + 2_440_588) * 86_400) (k * 86_400) s)
 
--- ---- Times that are held as seconds from the start of the lowest day
+-- ---- Times that are biased as seconds from the start of the lowest day
 abbrev pub lowest : ℕ
 lowest = 185_753_453_990_400
 
--- a time of 64 bits from there on is so held
-pub held-time : {t : ℤ} (k x : ℕ) → 9_223_186_283_400_785_408 + x ≡ k → unbias (2 ^ 63) k ≡ t → unbias lowest x ≡ t
-held-time k x h e = sym (unbias-both 9_223_186_283_400_785_408 lowest x) ∙ ap (unbias (2 ^ 63)) h ∙ e
+-- a time of 64 bits from there on is so biased
+pub biased-time : {t : ℤ} (k x : ℕ) → 9_223_186_283_400_785_408 + x ≡ k → unbias (2 ^ 63) k ≡ t → unbias lowest x ≡ t
+biased-time k x h e = sym (unbias-both 9_223_186_283_400_785_408 lowest x) ∙ ap (unbias (2 ^ 63)) h ∙ e
 
 -- the day and the seconds of a time
 pub time-at : {t : ℤ} (x : ℕ) → unbias lowest x ≡ t → UnixTime t (unbias (2 ^ 31) (x / 86_400)) (x % 86_400)
@@ -65,16 +65,16 @@ time-fits x h = unbias-fits (2 ^ 31) (x / 86_400) (omega arith) (omega arith)
 pub on-32-bit-day : {t : ℤ} (x : ℕ) → x < 371_085_174_374_400 → unbias lowest x ≡ t → On32BitDay t
 on-32-bit-day x h e = record { on-day = unbias (2 ^ 31) (x / 86_400); seconds = x % 86_400; day-fits = time-fits x h; is-time = time-at x e }
 
--- a time on a day of 32 bits is held so
-pub record HeldTime (t : ℤ) : Type 0 where
+-- a time on a day of 32 bits is biased so
+pub record BiasedTime (t : ℤ) : Type 0 where
   pub to : ℕ
   pub is : unbias lowest to ≡ t
   pub within : to < 371_085_174_374_400
 
-pub on-32-bit-day-only : {t : ℤ} → On32BitDay t → HeldTime t
+pub on-32-bit-day-only : {t : ℤ} → On32BitDay t → BiasedTime t
 on-32-bit-day-only {t} o = by (rise (2 ^ 31) (o .on-day) (o .day-fits .sfits))
   where
-    by : Raised (2 ^ 31) (o .on-day) → HeldTime t
+    by : Raised (2 ^ 31) (o .on-day) → BiasedTime t
     by r = record {
       to = r .to * 86_400 + o .seconds;
       is = sym (time-of (2 ^ 31) (r .to) (o .seconds)) ∙ ap (λ (n : ℤ). (n -ℤ pos 2_440_588) *ℤ pos 86_400 +ℤ pos (o .seconds)) (r .is) ∙ o .is-time .adds;
@@ -83,16 +83,16 @@ on-32-bit-day-only {t} o = by (rise (2 ^ 31) (o .on-day) (o .day-fits .sfits))
 
 -- a time of 64 bits that is below them, or above
 module _ {t : ℤ} (k : ℕ) (e : unbias (2 ^ 63) k ≡ t) where
-  held-at : HeldTime t → (9_223_186_283_400_785_408 ≤ k) × (k < 9_223_557_368_575_159_808)
-  held-at h =
+  biased-at : BiasedTime t → (9_223_186_283_400_785_408 ≤ k) × (k < 9_223_557_368_575_159_808)
+  biased-at h =
       let i : 9_223_186_283_400_785_408 + h .to ≡ k = unbias-injective (2 ^ 63) (9_223_186_283_400_785_408 + h .to) k (unbias-both 9_223_186_283_400_785_408 lowest (h .to) ∙ h .is ∙ sym e) in
       (omega arith, omega (arith, h .within))
 
   pub time-below : k < 9_223_186_283_400_785_408 → ¬ On32BitDay t
-  time-below h o = omega (arith, held-at (on-32-bit-day-only o))
+  time-below h o = omega (arith, biased-at (on-32-bit-day-only o))
 
   pub time-above : 9_223_557_368_575_159_808 ≤ k → ¬ On32BitDay t
-  time-above h o = omega (arith, held-at (on-32-bit-day-only o))
+  time-above h o = omega (arith, biased-at (on-32-bit-day-only o))
 
 -- the second at which a day begins
 pub day-begins : {n : ℤ} (x : ℕ) → unbias (2 ^ 31) x ≡ n → UnixTime (unbias (2 ^ 63) (x * 86_400 + 9_223_186_283_400_785_408)) n 0

@@ -24,26 +24,26 @@ pub record SameTime (n m : ℤ) (s r : ℕ) : Type 0 where
 pub unix-time-one : {t n m : ℤ} {s r : ℕ} → UnixTime t n s → UnixTime t m r → SameTime n m s r
 unix-time-one {t} {n} {m} {s} {r} p q = by (suc (mag n + mag m)) (rise (suc (mag n + mag m)) n (omega arith)) (rise (suc (mag n + mag m)) m (omega arith))
   where
-    held : (b : ℕ) (z : ℤ) (i : ℕ) → UnixTime t z i → (x : Raised b z) → unbias ((b + 2_440_588) * 86_400) (x .to * 86_400 + i) ≡ t
-    held b z i u x = sym (time-of b (x .to) i) ∙ ap (λ (z : ℤ). (z -ℤ pos 2_440_588) *ℤ pos 86_400 +ℤ pos i) (x .is) ∙ u .adds
+    biased : (b : ℕ) (z : ℤ) (i : ℕ) → UnixTime t z i → (x : Raised b z) → unbias ((b + 2_440_588) * 86_400) (x .to * 86_400 + i) ≡ t
+    biased b z i u x = sym (time-of b (x .to) i) ∙ ap (λ (z : ℤ). (z -ℤ pos 2_440_588) *ℤ pos 86_400 +ℤ pos i) (x .is) ∙ u .adds
 
     parts : (x y s r : ℕ) → s < 86_400 → r < 86_400 → x * 86_400 + s ≡ y * 86_400 + r → (x ≡ y) × (s ≡ r)
     parts x y s r f g e = (omega arith, omega arith)
 
     by : (b : ℕ) → Raised b n → Raised b m → SameTime n m s r
     by b x y =
-        let e : x .to * 86_400 + s ≡ y .to * 86_400 + r = unbias-injective ((b + 2_440_588) * 86_400) (x .to * 86_400 + s) (y .to * 86_400 + r) (held b n s p x ∙ sym (held b m r q y)) in
+        let e : x .to * 86_400 + s ≡ y .to * 86_400 + r = unbias-injective ((b + 2_440_588) * 86_400) (x .to * 86_400 + s) (y .to * 86_400 + r) (biased b n s p x ∙ sym (biased b m r q y)) in
         let (i, j) = parts (x .to) (y .to) s r (p .rest) (q .rest) e in
         record { same-day = sym (x .is) ∙ ap (unbias b) i ∙ y .is; same-seconds = j }
 
 -- ---- A promise allows one result
-held-day : {t n : ℤ} {s : ℕ} → Is32Bit n → UnixTime t n s → On32BitDay t
-held-day {n = n} {s} f u = record { on-day = n; seconds = s; day-fits = f; is-time = u }
+biased-day : {t n : ℤ} {s : ℕ} → Is32Bit n → UnixTime t n s → On32BitDay t
+biased-day {n = n} {s} f u = record { on-day = n; seconds = s; day-fits = f; is-time = u }
 
 pub day-second-one : {t : ℤ} {a b : DaySecond} → DaySecondOf t a → DaySecondOf t b → a ≡ b
 day-second-one (at f p) (at g q) = let e = unix-time-one p q in let i = e .same-day in let j = e .same-seconds in cc
-day-second-one (at f p) (outside-32 n) = absurd (n (held-day f p))
-day-second-one (outside-32 n) (at g q) = absurd (n (held-day g q))
+day-second-one (at f p) (outside-32 n) = absurd (n (biased-day f p))
+day-second-one (outside-32 n) (at g q) = absurd (n (biased-day g q))
 day-second-one (outside-32 n) (outside-32 m) = refl
 
 pub jdn2unix-one : {n t u : ℤ} → UnixTime t n 0 → UnixTime u n 0 → t ≡ u

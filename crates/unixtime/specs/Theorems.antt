@@ -9,7 +9,7 @@ use lib.Signed.{_≤ℤ_}
 use Rattle.whole.specs.Biased.{unbias-below, unbias-above}
 use Rattle.whole.specs.Integers.{unbias-le}
 use Rattle.unixtime.specs.Promise.{On32BitDay, day-time-of, Unix2Jdn}
-use Rattle.unixtime.specs.Laws.{lowest, HeldTime, on-32-bit-day, on-32-bit-day-only}
+use Rattle.unixtime.specs.Laws.{lowest, BiasedTime, on-32-bit-day, on-32-bit-day-only}
 use Rattle.days.specs.DayByDay.{Is32Bit, UnixTime}
 use Rattle.calendar.specs.Rows.{passes}
 use Rattle.unixtime.specs.declared.DayTime.{DayTime}
@@ -23,7 +23,7 @@ pub record InRange (t : ℤ) : Type 0 where
 pub accepted-in-range : {t : ℤ} → On32BitDay t → InRange t
 accepted-in-range {t} o = by (on-32-bit-day-only o)
   where
-    by : HeldTime t → InRange t
+    by : BiasedTime t → InRange t
     by h = record {
       from = subst (λ (z : ℤ). negsuc 185_753_453_990_399 ≤ℤ z) (h .is) (unbias-le lowest 0 (h .to) (omega arith));
       to = subst (λ (z : ℤ). z ≤ℤ pos 185_331_720_383_999) (h .is) (unbias-le lowest (h .to) 371_085_174_374_399 (omega (arith, h .within)));

@@ -11,7 +11,7 @@ use lib.IntN.{ℤ, sucℤ, predℤ}
 use Rattle.whole.specs.Tests.{true-or-false, lt-or-ge}
 use Rattle.whole.specs.Biased.{unbias}
 use Rattle.days.specs.DayByDay.{Is32Bit}
-use Rattle.days.specs.Ends.{suc-is, pred-is, suc-far, pred-far, raised-fits}
+use Rattle.days.specs.ClosedEnds.{suc-is, pred-is, suc-far, pred-far, raised-fits}
 use Rattle.ways.specs.declared.Kind.{Kind}
 use Rattle.ways.specs.declared.Kind.the-variants.{Later, Earlier, AndLater, AndEarlier}
 use Rattle.ways.specs.declared.Step.the-variants as Step′

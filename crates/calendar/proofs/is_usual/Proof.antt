@@ -6,12 +6,12 @@ use Prim.Native.Nat.{_-_, _<_}
 use native.Mathlib.Omega.{arith}
 use borrow.Author.Needs.{needs, sfits-of}
 use mir.Facts.{toZ-ofZ}
-use Rattle.days.specs.Held.{year}
-use Rattle.days.specs.Runs.{Runs}
-use Rattle.inner.specs.Laws.{held-year, raised-year-held}
-use Rattle.inner.specs.Natural.{heldYear}
-use Rattle.changeover.specs.Laws.{year-in-room, year-wholly}
-use Rattle.calendar.specs.Calendars.{meant}
+use Rattle.days.specs.BiasedDays.{year}
+use Rattle.days.specs.ClosedRuns.{Runs}
+use Rattle.inner.specs.Laws.{biased-year, raised-year-biased}
+use Rattle.inner.specs.Natural.{biasedYear}
+use Rattle.switches.specs.Laws.{year-in-room, year-wholly}
+use Rattle.calendar.specs.Calendars.{definitionOf}
 use Rattle.calendar.specs.Laws.{switch-runs, switch-made-up}
 use Rattle.calendar.specs.InMonth.{WholeYear, none-genuine, usual-by, not-whole}
 use Rattle.calendar.proofs.is_usual.Statement.{statement}
@@ -20,17 +20,17 @@ use Rattle.calendar.proofs.is_usual.Tie as tie
 abbrev start : tie.After-year-in → tie.Start
 start c = c .before .before .before .before .before .before .before
 
-runs : (c : tie.After-year-in) → Runs (meant (start c .args .date .calendar)) (c .before .before .before .before .switch .given .0 .0)
+runs : (c : tie.After-year-in) → Runs (definitionOf (start c .args .date .calendar)) (c .before .before .before .before .switch .given .0 .0)
 runs c = switch-runs _ (rw (c .before .before .before .before .switch .given .1) at (c .before .before .before .before .before .before .switch-of .ensures))
 
-year-is : (c : tie.After-year-in) → year (heldYear (c .before .raised .result)) ≡ start c .args .date .year
-year-is c = held-year (c .before .raised .result) ∙ c .before .raised .ensures ∙ toZ-ofZ (sfits-of (c .before .before .struct-told .given .1 .0 .1))
+year-is : (c : tie.After-year-in) → year (biasedYear (c .before .raised .result)) ≡ start c .args .date .year
+year-is c = biased-year (c .before .raised .result) ∙ c .before .raised .ensures ∙ toZ-ofZ (sfits-of (c .before .before .struct-told .given .1 .0 .1))
 
 room : (c : tie.After-year-in) → c .year-in .result .first < 2_000_000_000_000
-room c = year-in-room (raised-year-held (c .before .raised .ok)) (c .year-in .ensures)
+room c = year-in-room (raised-year-biased (c .before .raised .ok)) (c .year-in .ensures)
 
 whole-year : (c : tie.After-year-in) → c .year-in .result .whole ≡ true → WholeYear (start c .args .date)
-whole-year c e = record { switch = c .before .before .before .before .switch .given .0 .0; held-year = c .before .raised .result; at = c .year-in .result; runs = runs c; year-is = year-is c; year-in = c .year-in .ensures; wholly = e }
+whole-year c e = record { switch = c .before .before .before .before .switch .given .0 .0; biased-year = c .before .raised .result; at = c .year-in .result; runs = runs c; year-is = year-is c; year-in = c .year-in .ensures; wholly = e }
 
 switch-of-requires : tie.Need-switch-of-requires
 switch-of-requires c κs = search needs
@@ -69,7 +69,7 @@ returns : tie.Need-returns
 returns c =
     let m = c .before .before in
     let y = m .before .before in
-    λ g. none-genuine (start y .args .date) (y .before .raised .result) (runs y) (raised-year-held (y .before .raised .ok)) (year-is y) (year-wholly (y .year-in .ensures) (m .before .if1 .taken))
+    λ g. none-genuine (start y .args .date) (y .before .raised .result) (runs y) (raised-year-biased (y .before .raised .ok)) (year-is y) (year-wholly (y .year-in .ensures) (m .before .if1 .taken))
     (rw (c .enum-told2 .given .1) at (m .md2ordinal .ensures)) (g .0)
 
 returns-2 : tie.Need-returns-2
@@ -77,7 +77,7 @@ returns-2 c =
     let o = c .before .before .before in
     let m = o .before .before in
     let y = m .before .before in
-    usual-by (start y .args .date) (y .before .raised .result) (runs y) (raised-year-held (y .before .raised .ok)) (year-is y) (year-wholly (y .year-in .ensures) (m .before .if1 .taken))
+    usual-by (start y .args .date) (y .before .raised .result) (runs y) (raised-year-biased (y .before .raised .ok)) (year-is y) (year-wholly (y .year-in .ensures) (m .before .if1 .taken))
     (rw (o .ordinal .given .1) at (m .md2ordinal .ensures)) (whole-year y (m .before .if1 .taken)) (c .is-on .result) (c .is-on .ensures)
 
 returns-3 : tie.Need-returns-3

@@ -5,8 +5,8 @@ use Prim.Native.Nat.{_-_}
 use lib.IntN.{ℤ}
 use borrow.Author.Needs.{needs, sfits-of}
 use mir.Facts.{toZ-ofZ}
-use Rattle.days.specs.Runs.{julian-runs, gregorian-runs}
-use Rattle.reformation.specs.Judging.{Judges}
+use Rattle.days.specs.ClosedRuns.{julian-runs, gregorian-runs}
+use Rattle.switches.specs.Judging.{Judges}
 use Rattle.calendar.specs.Laws.{switch-accepted, switch-refused}
 use Rattle.calendar.specs.Natural.{SwitchIs, switches-at}
 use Rattle.calendar.specs.declared.Calendar.the-variants.{Reforming}

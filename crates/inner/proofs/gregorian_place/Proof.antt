@@ -4,23 +4,23 @@ use mathlib.Core.Path.{_≡_, sym, subst}
 use Prim.Native.Nat.{ℕ, _+_, _-_, _*_, _/_, _%_}
 use native.Mathlib.Omega.{arith}
 use borrow.Author.Needs.{needs}
-use Rattle.days.specs.Julian as J
-use Rattle.days.specs.Gregorian as G
-use Rattle.days.specs.Range.{gregorian-year}
-use Rattle.days.specs.Starts.{Spot}
-use Rattle.days.specs.Year.{year-most}
-use Rattle.inner.specs.Natural.{heldDay, VirtualPoint}
-use Rattle.inner.specs.Laws.{raised-day-held, spot-again, virtual-less, virtual-some, virtual-spot}
+use Rattle.days.specs.ClosedJulian as J
+use Rattle.days.specs.ClosedGregorian as G
+use Rattle.days.specs.ClosedRange.{gregorian-year}
+use Rattle.days.specs.ClosedStarts.{Spot}
+use Rattle.days.specs.ClosedYear.{year-most}
+use Rattle.inner.specs.Natural.{biasedDay, VirtualPoint}
+use Rattle.inner.specs.Laws.{raised-day-biased, spot-again, virtual-less, virtual-some, virtual-spot}
 use Rattle.inner.proofs.gregorian_place.Statement.{statement}
 use Rattle.inner.proofs.gregorian_place.Tie as tie
 
 -- the day of the cycle, and the virtual days before it
 spot : (d : ℕ) {t y o : ℕ} → VirtualPoint ((d + 782_203_220_162) % 146_097) t → Spot J.leapAt J.start (t - 1) y o
-    → Spot G.leapAt G.start (heldDay d) (400 * ((d + 782_203_220_162) / 146_097) + y) o
-spot d {t} {y} {o} v p = subst (λ (k : ℕ). Spot G.leapAt G.start (heldDay d) (400 * (k / 146_097) + y) o) (less d)
-    (virtual-spot (heldDay d) (omega arith) (subst (λ (k : ℕ). VirtualPoint (k % 146_097) t) (sym (less d)) v) p)
+    → Spot G.leapAt G.start (biasedDay d) (400 * ((d + 782_203_220_162) / 146_097) + y) o
+spot d {t} {y} {o} v p = subst (λ (k : ℕ). Spot G.leapAt G.start (biasedDay d) (400 * (k / 146_097) + y) o) (less d)
+    (virtual-spot (biasedDay d) (omega arith) (subst (λ (k : ℕ). VirtualPoint (k % 146_097) t) (sym (less d)) v) p)
   where
-    less : (d : ℕ) → heldDay d - 16_106_132 ≡ d + 782_203_220_162
+    less : (d : ℕ) → biasedDay d - 16_106_132 ≡ d + 782_203_220_162
     less d = omega arith
 
 add-days : tie.Need-add-days
@@ -45,7 +45,7 @@ sub-t6 : tie.Need-sub-t6
 sub-t6 c = search needs
 
 cast-t8 : tie.Need-cast-t8
-cast-t8 c = record { fits = omega (arith, gregorian-year (raised-day-held (c .before .before .before .fits .day .fits)) (spot (c .before .before .before .args .day) (c .before .before .virtual-point .ensures) (c .before .decompose-julian .ensures))) }
+cast-t8 c = record { fits = omega (arith, gregorian-year (raised-day-biased (c .before .before .before .fits .day .fits)) (spot (c .before .before .before .args .day) (c .before .before .virtual-point .ensures) (c .before .decompose-julian .ensures))) }
 
 cast-t9 : tie.Need-cast-t9
 cast-t9 c = record { fits = omega (arith, c .before .before .decompose-julian .ensures .to, year-most (J.leapAt (c .before .before .decompose-julian .result .year))) }
@@ -53,7 +53,7 @@ cast-t9 c = record { fits = omega (arith, c .before .before .decompose-julian .e
 returns : tie.Need-returns
 returns c =
     let p = spot (c .before .before .before .before .args .day) (c .before .before .before .virtual-point .ensures) (c .before .before .decompose-julian .ensures) in
-    spot-again (gregorian-year (raised-day-held (c .before .before .before .before .fits .day .fits)) p) p
+    spot-again (gregorian-year (raised-day-biased (c .before .before .before .before .fits .day .fits)) p) p
 
 pub gregorian-place-spec : {M : Type 1} → statement M
 gregorian-place-spec =

@@ -4,8 +4,8 @@ use mathlib.Core.Path.{_∙_, sym, ap}
 use borrow.Author.Needs.{needs}
 use mir.Facts.{toZ-ofZ}
 use Rattle.days.specs.DayByDay.{gregorianLeap}
-use Rattle.inner.specs.Laws.{gregorian-leap, held-year}
-use Rattle.inner.specs.Natural.{heldYear}
+use Rattle.inner.specs.Laws.{gregorian-leap, biased-year}
+use Rattle.inner.specs.Natural.{biasedYear}
 use Rattle.inner.proofs.is_gregorian_leap_year.Statement.{statement}
 use Rattle.inner.proofs.is_gregorian_leap_year.Tie as tie
 
@@ -18,7 +18,7 @@ is-gregorian-leap-requires c κs = search needs
 returns : tie.Need-returns
 returns c =
     let x = c .before .raised .result in
-    c .is-gregorian-leap .ensures ∙ sym (gregorian-leap (heldYear x)) ∙ ap gregorianLeap (held-year x ∙ c .before .raised .ensures ∙ toZ-ofZ (c .before .before .fits .year))
+    c .is-gregorian-leap .ensures ∙ sym (gregorian-leap (biasedYear x)) ∙ ap gregorianLeap (biased-year x ∙ c .before .raised .ensures ∙ toZ-ofZ (c .before .before .fits .year))
 
 pub is-gregorian-leap-year-spec : {M : Type 1} → statement M
 is-gregorian-leap-year-spec =

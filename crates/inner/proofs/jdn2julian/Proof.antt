@@ -1,10 +1,10 @@
 -- `inner::jdn2julian` meets its promise.
 -- Assumes nothing.
-use Rattle.days.specs.Range.{julian-year}
+use Rattle.days.specs.ClosedRange.{julian-year}
 use mathlib.Core.Path.{_∙_, sym}
 use borrow.Author.Needs.{needs, sfits-of}
 use mir.Facts.{toZ-ofZ}
-use Rattle.inner.specs.Laws.{julian-alone, spot-year-and-ordinal, raised-day-held, held-day, held-year}
+use Rattle.inner.specs.Laws.{julian-alone, spot-year-and-ordinal, raised-day-biased, biased-day, biased-year}
 use Rattle.inner.proofs.jdn2julian.Statement.{statement}
 use Rattle.inner.proofs.jdn2julian.Tie as tie
 
@@ -21,9 +21,9 @@ returns : tie.Need-returns
 returns c =
     let x = c .before .before .raised .result in
     let p = c .before .julian-place .ensures in
-    spot-year-and-ordinal julian-alone (julian-year (raised-day-held (c .before .before .raised .ok)) p) p
-    (held-day x ∙ c .before .before .raised .ensures ∙ toZ-ofZ (c .before .before .before .fits .jdn))
-    (held-year (c .before .julian-place .result .year) ∙ sym (c .lowered .ensures) ∙ sym (toZ-ofZ (sfits-of (c .lowered .ok))))
+    spot-year-and-ordinal julian-alone (julian-year (raised-day-biased (c .before .before .raised .ok)) p) p
+    (biased-day x ∙ c .before .before .raised .ensures ∙ toZ-ofZ (c .before .before .before .fits .jdn))
+    (biased-year (c .before .julian-place .result .year) ∙ sym (c .lowered .ensures) ∙ sym (toZ-ofZ (sfits-of (c .lowered .ok))))
 
 pub jdn2julian-spec : {M : Type 1} → statement M
 jdn2julian-spec =

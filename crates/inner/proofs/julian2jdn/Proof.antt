@@ -3,7 +3,7 @@
 use mathlib.Core.Path.{_∙_}
 use borrow.Author.Needs.{needs}
 use mir.Facts.{toZ-ofZ}
-use Rattle.inner.specs.Laws.{julian-alone, ordinal-answer, raised-year-held, held-year}
+use Rattle.inner.specs.Laws.{julian-alone, ordinal-answer, raised-year-biased, biased-year}
 use Rattle.inner.proofs.julian2jdn.Statement.{statement}
 use Rattle.inner.proofs.julian2jdn.Tie as tie
 
@@ -21,7 +21,7 @@ ordinal-number-requires c κs = search needs
 
 returns : tie.Need-returns
 returns c =
-    ordinal-answer julian-alone (raised-year-held (c .before .before .before .raised .ok)) (held-year (c .before .before .before .raised .result) ∙ c .before .before .before .raised .ensures ∙ toZ-ofZ (c .before .before .before .before .fits .year))
+    ordinal-answer julian-alone (raised-year-biased (c .before .before .before .raised .ok)) (biased-year (c .before .before .before .raised .result) ∙ c .before .before .before .raised .ensures ∙ toZ-ofZ (c .before .before .before .before .fits .year))
     (c .before .before .is-julian-leap .ensures) (c .before .julian-start .ensures) (c .ordinal-number .ensures)
 
 pub julian2jdn-spec : {M : Type 1} → statement M

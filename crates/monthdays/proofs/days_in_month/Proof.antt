@@ -3,7 +3,7 @@
 use native.Mathlib.Omega.{arith}
 use mathlib.Core.Path.{sym, _∙_, ap}
 use mathlib.Core.Bool.{Bool, cond}
-use Rattle.days.specs.Months.{february, short, long, no-month}
+use Rattle.days.specs.ClosedMonths.{february, short, long, no-month}
 use Rattle.monthdays.proofs.days_in_month.Statement.{statement}
 use Rattle.monthdays.proofs.days_in_month.Tie as tie
 

@@ -28,11 +28,11 @@ refusal-with-requires c κs = search needs
 returns : tie.Need-returns
 returns c = rw (c .refusal-with .ensures) (off-low _ _ (span (c .before .before)) _ (c .before .if1 .taken))
 
-add-held : tie.Need-add-held
-add-held c = record { fits = omega (arith, span-room _ _ (span (c .before .before)), span-ordered _ _ (span (c .before .before))) }
+add-biased : tie.Need-add-biased
+add-biased c = record { fits = omega (arith, span-room _ _ (span (c .before .before)), span-ordered _ _ (span (c .before .before))) }
 
-sub-held : tie.Need-sub-held
-sub-held c = search needs
+sub-biased : tie.Need-sub-biased
+sub-biased c = search needs
 
 refusal-with-requires-2 : tie.Need-refusal-with-requires-2
 refusal-with-requires-2 c κs = search needs
@@ -58,8 +58,8 @@ nth-day-spec =
     enum-known-s
     refusal-with-requires
     returns
-    add-held
-    sub-held
+    add-biased
+    sub-biased
     refusal-with-requires-2
     returns-2
     day-in-requires

@@ -4,7 +4,7 @@ use mathlib.Core.Path.{_∙_}
 use Prim.Native.Nat.{_-_}
 use borrow.Author.Needs.{needs}
 use mir.Facts.{toZ-ofZ}
-use Rattle.inner.specs.Laws.{held-year, raised-year-held}
+use Rattle.inner.specs.Laws.{biased-year, raised-year-biased}
 use Rattle.calendar.specs.Laws.{switch-runs, switch-made-up}
 use Rattle.months.specs.Laws.{span-made}
 use Rattle.months.specs.Natural.{no-calendar}
@@ -36,7 +36,7 @@ returns-2 : tie.Need-returns-2
 returns-2 c =
     let y = c .before in
     let n = y .before .before .before .before in
-    span-made _ (switch-runs _ (rw (y .before .before .switch .given .1) at (n .switch-of .ensures))) (raised-year-held (y .raised .ok)) (held-year (y .raised .result) ∙ y .raised .ensures ∙ toZ-ofZ (n .before .fits .year)) (c .month-span .ensures)
+    span-made _ (switch-runs _ (rw (y .before .before .switch .given .1) at (n .switch-of .ensures))) (raised-year-biased (y .raised .ok)) (biased-year (y .raised .result) ∙ y .raised .ensures ∙ toZ-ofZ (n .before .fits .year)) (c .month-span .ensures)
 
 pub span-of-spec : {M : Type 1} → statement M
 span-of-spec =

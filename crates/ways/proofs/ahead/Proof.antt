@@ -6,7 +6,7 @@ use borrow.Author.Needs.{needs, sfits-of}
 use lib.IntN.{sucℤ, predℤ}
 use mir.Facts.{toZ-ofZ}
 use Rattle.whole.specs.Biased.{unbias}
-use Rattle.days.specs.Ends.{suc-is, pred-is}
+use Rattle.days.specs.ClosedEnds.{suc-is, pred-is}
 use Rattle.ways.specs.Ways.{toward}
 use Rattle.ways.specs.Laws.{toward-later, toward-earlier, room-up, room-down}
 use Rattle.ways.proofs.ahead.Statement.{statement}

@@ -5,7 +5,7 @@ use Prim.Native.Nat.{_-_}
 use borrow.Author.Needs.{needs}
 use mir.Facts.{toZ-ofZ}
 use Rattle.days.specs.DayByDay.{weekday}
-use Rattle.days.specs.Weekdays.{weekday-is}
+use Rattle.days.specs.ClosedWeekdays.{weekday-is}
 use Rattle.weekday.proofs.for_jdn.Statement.{statement}
 use Rattle.weekday.proofs.for_jdn.Tie as tie
 

@@ -3,15 +3,15 @@
 use Prim.Native.Nat.{_-_}
 use borrow.Author.Needs.{needs}
 use mir.Facts.{toZ-ofZ}
-use Rattle.days.specs.Runs.{Runs}
-use Rattle.calendar.specs.Calendars.{meant}
+use Rattle.days.specs.ClosedRuns.{Runs}
+use Rattle.calendar.specs.Calendars.{definitionOf}
 use Rattle.calendar.specs.Laws.{switch-runs, switch-made-up}
 use Rattle.calendar.specs.Promise.{record-of}
 use Rattle.calendar.specs.Rows.{refuses, passes}
 use Rattle.calendar.proofs.Calendar.at_jdn.Statement.{statement}
 use Rattle.calendar.proofs.Calendar.at_jdn.Tie as tie
 
-runs : (c : tie.After-known-told) → Runs (meant (c .before .before .before .before .args .self)) (c .before .switch .given .0 .0)
+runs : (c : tie.After-known-told) → Runs (definitionOf (c .before .before .before .before .args .self)) (c .before .switch .given .0 .0)
 runs c = switch-runs _ (rw (c .before .switch .given .1) at (c .before .before .before .switch-of .ensures))
 
 switch-of-requires : tie.Need-switch-of-requires

@@ -3,13 +3,13 @@
 use native.Mathlib.Omega.{arith}
 use borrow.Author.Needs.{needs}
 use mir.Facts.{toZ-ofZ}
-use Rattle.days.specs.Runs.{Runs}
-use Rattle.calendar.specs.Calendars.{meant}
+use Rattle.days.specs.ClosedRuns.{Runs}
+use Rattle.calendar.specs.Calendars.{definitionOf}
 use Rattle.calendar.specs.Rows.{passes}
 use Rattle.calendar.proofs.Calendar.at_ordinal_date.Statement.{statement}
 use Rattle.calendar.proofs.Calendar.at_ordinal_date.Tie as tie
 
-turns : (c : tie.After-known-told3) → Runs (meant (c .before .before .before .before .args .self)) (c .before .switch .given .0 .0)
+turns : (c : tie.After-known-told3) → Runs (definitionOf (c .before .before .before .before .args .self)) (c .before .switch .given .0 .0)
 turns c = rw (c .before .switch .given .1) at (c .before .before .before .usual-ordinal .ensures)
 
 usual-ordinal-requires : tie.Need-usual-ordinal-requires

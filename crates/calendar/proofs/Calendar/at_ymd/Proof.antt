@@ -3,14 +3,14 @@
 use borrow.Author.Needs.{needs}
 use mir.Facts.{toZ-ofZ}
 use Rattle.days.specs.DayByDay.{Month}
-use Rattle.days.specs.Runs.{Runs}
-use Rattle.calendar.specs.Calendars.{meant}
+use Rattle.days.specs.ClosedRuns.{Runs}
+use Rattle.calendar.specs.Calendars.{definitionOf}
 use Rattle.calendar.specs.Rows.{passes}
 use Rattle.calendar.specs.Laws.{label-turning}
 use Rattle.calendar.proofs.Calendar.at_ymd.Statement.{statement}
 use Rattle.calendar.proofs.Calendar.at_ymd.Tie as tie
 
-turns : (c : tie.After-known-told3) → Runs (meant (c .before .before .before .before .args .self)) (c .before .switch .given .0 .0) × Month (c .before .before .before .before .args .month)
+turns : (c : tie.After-known-told3) → Runs (definitionOf (c .before .before .before .before .args .self)) (c .before .switch .given .0 .0) × Month (c .before .before .before .before .args .month)
 turns c = rw (c .before .switch .given .1) at (c .before .before .before .usual-label .ensures)
 
 usual-label-requires : tie.Need-usual-label-requires

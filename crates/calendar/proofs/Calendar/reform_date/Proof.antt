@@ -7,8 +7,8 @@ use borrow.Author.Needs.{needs, sfits-of}
 use lib.IntN.{ℤ, pos, _-ℤ_}
 use mir.Facts.{toZ-ofZ}
 use Rattle.whole.specs.Biased.{unbias, unbias-back}
-use Rattle.days.specs.Runs.{Runs}
-use Rattle.calendar.specs.Calendars.{meant, Accepted}
+use Rattle.days.specs.ClosedRuns.{Runs}
+use Rattle.calendar.specs.Calendars.{definitionOf, Accepted}
 use Rattle.calendar.specs.Laws.{switch-runs, switch-made-up, reform-some}
 use Rattle.calendar.specs.Promise.{ReformRecord, never-julian, never-gregorian, reform-record}
 use Rattle.calendar.specs.Rows.{refuses, passes}
@@ -18,7 +18,7 @@ use Rattle.calendar.specs.declared.ReformDate.the-variants as ReformDate
 use Rattle.calendar.proofs.Calendar.reform_date.Statement.{statement}
 use Rattle.calendar.proofs.Calendar.reform_date.Tie as tie
 
-runs : (c : tie.After-known-told) → Runs (meant (c .before .before .before .before .args .self)) (c .before .switch .given .0 .0)
+runs : (c : tie.After-known-told) → Runs (definitionOf (c .before .before .before .before .args .self)) (c .before .switch .given .0 .0)
 runs c = switch-runs _ (rw (c .before .switch .given .1) at (c .before .before .before .switch-of .ensures))
 
 accepts : (c : tie.After-raised) → Accepted (Calendar′.Reforming (c .before .before .calendar .given .0 .0))
@@ -60,7 +60,7 @@ lowered-requires c κs = search needs
 on-day-requires : tie.Need-on-day-requires
 on-day-requires c κs =
     let a = c .before in
-    subst (λ (k : Calendar). Runs (meant k) (a .before .before .before .before .before .switch .given .0 .0)) (a .before .before .calendar .given .1) (runs (a .before .before .before .before))
+    subst (λ (k : Calendar). Runs (definitionOf k) (a .before .before .before .before .before .switch .given .0 .0)) (a .before .before .calendar .given .1) (runs (a .before .before .before .before))
 
 returns : tie.Need-returns
 returns c = rw (c .refusal-of .ensures) (refuses (switch-made-up _ (rw (c .before .enum-told .given .1) at (c .before .before .before .switch-of .ensures))))

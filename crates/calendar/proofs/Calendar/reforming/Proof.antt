@@ -5,11 +5,11 @@ use Prim.Native.Nat.{_-_}
 use lib.IntN.{ℤ}
 use borrow.Author.Needs.{needs}
 use mir.Facts.{toZ-ofZ}
-use Rattle.reformation.specs.Judging.{Judges}
+use Rattle.switches.specs.Judging.{Judges}
 use Rattle.calendar.specs.Laws.{reforms-accepted, reforms-refused}
 use Rattle.calendar.specs.Promise.{Reforms}
 use Rattle.calendar.specs.declared.Calendar.the-variants as Calendar′
-use Rattle.calendar.specs.declared.Reformed.the-variants as Reformed′
+use Rattle.calendar.specs.declared.Chosen.the-variants as Chosen′
 use Rattle.calendar.proofs.Calendar.reforming.Statement.{statement}
 use Rattle.calendar.proofs.Calendar.reforming.Tie as tie
 
@@ -31,7 +31,7 @@ refused-reformation-requires c κs = search needs
 returns : tie.Need-returns
 returns c =
     let a = c .before .before in
-    subst (λ (z : ℤ). Reforms (a .before .args .r) (Reformed′.Calendar (Calendar′.Reforming z))) (sym (toZ-ofZ (a .before .fits .r))) (reforms-accepted (rw (c .enum-told .given .1) at (judges a)))
+    subst (λ (z : ℤ). Reforms (a .before .args .r) (Chosen′.Calendar (Calendar′.Reforming z))) (sym (toZ-ofZ (a .before .fits .r))) (reforms-accepted (rw (c .enum-told .given .1) at (judges a)))
 
 returns-2 : tie.Need-returns-2
 returns-2 c =

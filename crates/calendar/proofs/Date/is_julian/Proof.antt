@@ -6,7 +6,7 @@ use borrow.Author.Needs.{needs, sfits-of}
 use lib.IntN.{ℤ}
 use mir.Facts.{toZ-ofZ}
 use Rattle.days.specs.DayByDay.{JulianStyle, style}
-use Rattle.calendar.specs.Calendars.{Genuine, meant, sameStyle}
+use Rattle.calendar.specs.Calendars.{Genuine, definitionOf, sameStyle}
 use Rattle.calendar.specs.Rows.{refuses, passes}
 use Rattle.calendar.specs.declared.Told.the-variants as Told′
 use Rattle.calendar.proofs.Date.is_julian.Statement.{statement}
@@ -25,7 +25,7 @@ has-julian-style-requires : tie.Need-has-julian-style-requires
 has-julian-style-requires c κs = search needs
 
 returns : tie.Need-returns
-returns c = passes (genuine (c .before .before)) (ap Told′.Is (c .has-julian-style .ensures (genuine (c .before .before) .accepted) ∙ ap (λ (n : ℤ). sameStyle JulianStyle (style (meant (c .before .before .before .before .args .self .calendar)) n)) (toZ-ofZ (sfits-of (c .before .struct-told .given .1 .1 .1 .1 .1 .1 .0 .1)))))
+returns c = passes (genuine (c .before .before)) (ap Told′.Is (c .has-julian-style .ensures (genuine (c .before .before) .accepted) ∙ ap (λ (n : ℤ). sameStyle JulianStyle (style (definitionOf (c .before .before .before .before .args .self .calendar)) n)) (toZ-ofZ (sfits-of (c .before .struct-told .given .1 .1 .1 .1 .1 .1 .0 .1)))))
 
 refusal-of-requires : tie.Need-refusal-of-requires
 refusal-of-requires c κs = search needs

@@ -4,14 +4,14 @@ use mathlib.Core.Path.{sym, _∙_}
 use Prim.Native.Nat.{_-_}
 use borrow.Author.Needs.{needs, sfits-of}
 use mir.Facts.{toZ-ofZ}
-use Rattle.inner.specs.Laws.{held-year}
+use Rattle.inner.specs.Laws.{biased-year}
 use Rattle.inner.specs.Natural.{Lowers}
 use Rattle.inner.specs.declared.DayNumber.the-variants as DayNumber′
-use Rattle.calendar.specs.Laws.{given-held, given-far, given-none, lowered-day}
+use Rattle.calendar.specs.Laws.{given-biased, given-far, given-none, lowered-day}
 use Rattle.calendar.proofs.record.given.Statement.{statement}
 use Rattle.calendar.proofs.record.given.Tie as tie
 
-number : (c : tie.After-known-told) → Lowers (c .before .before .before .before .args .s .held) (DayNumber′.Day (c .before .jdn .given .0 .0))
+number : (c : tie.After-known-told) → Lowers (c .before .before .before .before .args .s .biased) (DayNumber′.Day (c .before .jdn .given .0 .0))
 number c = rw (c .before .jdn .given .1) at (c .before .before .before .day-number .ensures)
 
 day-number-requires : tie.Need-day-number-requires
@@ -44,7 +44,7 @@ refused-year-requires-2 : tie.Need-refused-year-requires-2
 refused-year-requires-2 c κs = search needs
 
 returns : tie.Need-returns
-returns c = given-held (c .before .before .before .before .before .args .calendar) (number (c .before)) (rw (toZ-ofZ (sfits-of (c .before .known-told .given .0 .1))) at (c .record-of .ensures))
+returns c = given-biased (c .before .before .before .before .before .args .calendar) (number (c .before)) (rw (toZ-ofZ (sfits-of (c .before .known-told .given .0 .1))) at (c .record-of .ensures))
 
 returns-2 : tie.Need-returns-2
 returns-2 c = absurd (given-none (c .before .before .enum-told .given .1) (c .before .before .before .before .day-number .ensures))
@@ -52,7 +52,7 @@ returns-2 c = absurd (given-none (c .before .before .enum-told .given .1) (c .be
 returns-3 : tie.Need-returns-3
 returns-3 c =
     let a = c .before .before .before .before .before in
-    rw (c .refused-year2 .ensures, toZ-ofZ (sfits-of (c .before .lowered2 .ok)), c .before .lowered2 .ensures, ← held-year (a .args .s .year))
+    rw (c .refused-year2 .ensures, toZ-ofZ (sfits-of (c .before .lowered2 .ok)), c .before .lowered2 .ensures, ← biased-year (a .args .s .year))
     (given-far (a .args .calendar) (rw (c .before .before .enum-told2 .given .1) at (c .before .before .before .before .day-number .ensures)))
 
 pub given-spec : {M : Type 1} → statement M

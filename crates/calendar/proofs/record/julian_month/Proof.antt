@@ -3,10 +3,10 @@
 use Prim.Native.Nat.{_-_}
 use native.Mathlib.Omega.{arith}
 use borrow.Author.Needs.{needs}
-use Rattle.inner.specs.Natural.{heldYear}
+use Rattle.inner.specs.Natural.{biasedYear}
 use Rattle.monthdays.specs.Promise.{OrdinalOf}
 use Rattle.monthdays.specs.declared.DayOrdinal.the-variants as DayOrdinal′
-use Rattle.changeover.specs.Laws.{ordinal-some, month-has-first}
+use Rattle.switches.specs.Laws.{ordinal-some, month-has-first}
 use Rattle.calendar.specs.Laws.{julian-month-is}
 use Rattle.calendar.proofs.record.julian_month.Statement.{statement}
 use Rattle.calendar.proofs.record.julian_month.Tie as tie
@@ -39,7 +39,7 @@ enum-told : tie.Need-enum-told
 enum-told c = search needs
 
 returns : tie.Need-returns
-returns c = julian-month-is (heldYear (c .before .before .before .before .before .before .args .year)) (c .before .before .before .before .before .is-julian-leap .ensures) (c .julian-start .ensures) (at (c .before))
+returns c = julian-month-is (biasedYear (c .before .before .before .before .before .before .args .year)) (c .before .before .before .before .before .is-julian-leap .ensures) (c .julian-start .ensures) (at (c .before))
 
 returns-2 : tie.Need-returns-2
 returns-2 c = absurd (month-has-first (c .before .before .before .before .pre) (rw (c .enum-told .given .1) at (c .before .before .md2ordinal .ensures)))

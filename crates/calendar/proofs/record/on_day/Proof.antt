@@ -4,17 +4,17 @@ use mathlib.Core.Path.{_≡_, sym, _∙_, ap}
 use Prim.Native.Nat.{ℕ, _-_}
 use borrow.Author.Needs.{needs}
 use mir.Facts.{toZ-ofZ}
-use Rattle.days.specs.Held.{day}
-use Rattle.days.specs.Range.{julian-year, gregorian-year}
-use Rattle.inner.specs.Laws.{held-day, raised-day-held}
-use Rattle.inner.specs.Natural.{heldDay}
+use Rattle.days.specs.BiasedDays.{day}
+use Rattle.days.specs.ClosedRange.{julian-year, gregorian-year}
+use Rattle.inner.specs.Laws.{biased-day, raised-day-biased}
+use Rattle.inner.specs.Natural.{biasedDay}
 use Rattle.calendar.specs.Laws.{spot-old, spot-new}
 use Rattle.calendar.proofs.record.on_day.Statement.{statement}
 use Rattle.calendar.proofs.record.on_day.Tie as tie
 
--- the raised day is held for its number
-jdn-is : (c : tie.After-raised) → day (heldDay (c .raised .result)) ≡ c .before .args .jdn
-jdn-is c = held-day (c .raised .result) ∙ c .raised .ensures ∙ toZ-ofZ (c .before .fits .jdn)
+-- the raised day is biased for its number
+jdn-is : (c : tie.After-raised) → day (biasedDay (c .raised .result)) ≡ c .before .args .jdn
+jdn-is c = biased-day (c .raised .result) ∙ c .raised .ensures ∙ toZ-ofZ (c .before .fits .jdn)
 
 raised-requires : tie.Need-raised-requires
 raised-requires c κs = search needs
@@ -40,8 +40,8 @@ record-of-requires c κs =
     let a = t .before .before in
     let p = t .julian-place .ensures in (
       a .before .pre,
-      spot-old (julian-year (raised-day-held (a .raised .ok)) p) (t .before .if1 .taken) p (c .before .is-julian-leap .ensures) (c .spot-at .ensures),
-      ap (λ (k : ℕ). day k) (ap (λ s. s .held) (c .spot-at .ensures .is)) ∙ jdn-is a ∙ sym (toZ-ofZ (a .before .fits .jdn)),
+      spot-old (julian-year (raised-day-biased (a .raised .ok)) p) (t .before .if1 .taken) p (c .before .is-julian-leap .ensures) (c .spot-at .ensures),
+      ap (λ (k : ℕ). day k) (ap (λ s. s .biased) (c .spot-at .ensures .is)) ∙ jdn-is a ∙ sym (toZ-ofZ (a .before .fits .jdn)),
     )
 
 returns : tie.Need-returns
@@ -62,8 +62,8 @@ record-of-requires-2 c κs =
     let a = t .before .before in
     let p = t .gregorian-place .ensures in (
       a .before .pre,
-      spot-new (gregorian-year (raised-day-held (a .raised .ok)) p) (t .before .if1 .left) p (c .before .is-gregorian-leap .ensures) (c .spot-at2 .ensures),
-      ap (λ (k : ℕ). day k) (ap (λ s. s .held) (c .spot-at2 .ensures .is)) ∙ jdn-is a ∙ sym (toZ-ofZ (a .before .fits .jdn)),
+      spot-new (gregorian-year (raised-day-biased (a .raised .ok)) p) (t .before .if1 .left) p (c .before .is-gregorian-leap .ensures) (c .spot-at2 .ensures),
+      ap (λ (k : ℕ). day k) (ap (λ s. s .biased) (c .spot-at2 .ensures .is)) ∙ jdn-is a ∙ sym (toZ-ofZ (a .before .fits .jdn)),
     )
 
 returns-2 : tie.Need-returns-2

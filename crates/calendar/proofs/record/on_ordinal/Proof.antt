@@ -5,15 +5,15 @@ use Prim.Native.Nat.{_-_}
 use native.Mathlib.Omega.{arith}
 use borrow.Author.Needs.{needs}
 use mir.Facts.{toZ-ofZ}
-use Rattle.days.specs.Held.{year}
-use Rattle.inner.specs.Laws.{held-year, raised-year-held}
-use Rattle.inner.specs.Natural.{heldYear}
+use Rattle.days.specs.BiasedDays.{year}
+use Rattle.inner.specs.Laws.{biased-year, raised-year-biased}
+use Rattle.inner.specs.Natural.{biasedYear}
 use Rattle.calendar.specs.Laws.{off-low, off-high, in-year-at, ordinal-row}
 use Rattle.calendar.proofs.record.on_ordinal.Statement.{statement}
 use Rattle.calendar.proofs.record.on_ordinal.Tie as tie
 
-year-is : (c : tie.After-raised) → year (heldYear (c .raised .result)) ≡ c .before .args .year
-year-is c = held-year (c .raised .result) ∙ c .raised .ensures ∙ toZ-ofZ (c .before .fits .year)
+year-is : (c : tie.After-raised) → year (biasedYear (c .raised .result)) ≡ c .before .args .year
+year-is c = biased-year (c .raised .result) ∙ c .raised .ensures ∙ toZ-ofZ (c .before .fits .year)
 
 raised-requires : tie.Need-raised-requires
 raised-requires c κs = search needs
@@ -28,7 +28,7 @@ returns : tie.Need-returns
 returns c =
     let y = c .before .before in
     let a = y .before .before in
-    rw (c .refused-count .ensures) (off-low (a .args .calendar) (a .pre) (y .before .raised .result) (a .args .ordinal) (raised-year-held (y .before .raised .ok)) (year-is (y .before)) (y .year-span .ensures) (c .before .if1 .taken))
+    rw (c .refused-count .ensures) (off-low (a .args .calendar) (a .pre) (y .before .raised .result) (a .args .ordinal) (raised-year-biased (y .before .raised .ok)) (year-is (y .before)) (y .year-span .ensures) (c .before .if1 .taken))
 
 add-if2 : tie.Need-add-if2
 add-if2 c = record { fits = omega (arith, c .before .before .year-span .ensures .first-room) }
@@ -40,7 +40,7 @@ returns-2 : tie.Need-returns-2
 returns-2 c =
     let y = c .before .before .before .before .before in
     let a = y .before .before in
-    rw (c .refused-count2 .ensures) (off-high (a .args .calendar) (a .pre) (y .before .raised .result) (a .args .ordinal) (raised-year-held (y .before .raised .ok)) (year-is (y .before)) (y .year-span .ensures) (c .before .if2 .taken))
+    rw (c .refused-count2 .ensures) (off-high (a .args .calendar) (a .pre) (y .before .raised .result) (a .args .ordinal) (raised-year-biased (y .before .raised .ok)) (year-is (y .before)) (y .year-span .ensures) (c .before .if2 .taken))
 
 add-in-year : tie.Need-add-in-year
 add-in-year c = record { fits = omega (arith, c .before .before .before .before .before .year-span .ensures .first-room) }
@@ -52,13 +52,13 @@ in-year-requires : tie.Need-in-year-requires
 in-year-requires c κs =
     let y = c .before .before .before .before .before in
     let a = y .before .before in
-    in-year-at (a .args .calendar) (a .pre) (y .before .raised .result) (a .args .ordinal) (raised-year-held (y .before .raised .ok)) (year-is (y .before)) (y .year-span .ensures) (c .before .before .before .before .if1 .left) (c .before .if2 .left)
+    in-year-at (a .args .calendar) (a .pre) (y .before .raised .result) (a .args .ordinal) (raised-year-biased (y .before .raised .ok)) (year-is (y .before)) (y .year-span .ensures) (c .before .before .before .before .if1 .left) (c .before .if2 .left)
 
 returns-3 : tie.Need-returns-3
 returns-3 c =
     let y = c .before .before .before .before .before .before in
     let a = y .before .before in
-    ordinal-row (a .args .calendar) (a .pre) (y .before .raised .result) (a .args .ordinal) (raised-year-held (y .before .raised .ok)) (year-is (y .before)) (y .year-span .ensures) (c .before .before .before .before .before .if1 .left) (c .before .before .if2 .left) (c .in-year .ensures)
+    ordinal-row (a .args .calendar) (a .pre) (y .before .raised .result) (a .args .ordinal) (raised-year-biased (y .before .raised .ok)) (year-is (y .before)) (y .year-span .ensures) (c .before .before .before .before .before .if1 .left) (c .before .before .if2 .left) (c .in-year .ensures)
 
 pub on-ordinal-spec : {M : Type 1} → statement M
 on-ordinal-spec =

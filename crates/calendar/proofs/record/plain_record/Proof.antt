@@ -7,7 +7,7 @@ use lib.IntN.{ℤ}
 use mir.Syntax.{w32}
 use mir.Val.{toZ, ofZ}
 use mir.Facts.{toZ-ofZ}
-use Rattle.inner.specs.Laws.{held-year}
+use Rattle.inner.specs.Laws.{biased-year}
 use Rattle.calendar.specs.declared.Calendar.{Calendar}
 use Rattle.calendar.specs.declared.Date.{Date}
 use Rattle.calendar.proofs.record.plain_record.Statement.{statement}
@@ -22,7 +22,7 @@ lowered-requires c κs = search needs
 returns : tie.Need-returns
 returns c =
     let s = c .before .args .s in
-    ap (λ (z : ℤ). whole (c .before .args .calendar) z (s .ordinal) (s .month) (s .day) (toZ w32 (ofZ w32 (c .before .args .jdn)))) (toZ-ofZ {w = w32} (sfits-of (c .lowered .ok)) ∙ c .lowered .ensures ∙ sym (held-year (s .year)))
+    ap (λ (z : ℤ). whole (c .before .args .calendar) z (s .ordinal) (s .month) (s .day) (toZ w32 (ofZ w32 (c .before .args .jdn)))) (toZ-ofZ {w = w32} (sfits-of (c .lowered .ok)) ∙ c .lowered .ensures ∙ sym (biased-year (s .year)))
     ∙ ap (whole (c .before .args .calendar) _ (s .ordinal) (s .month) (s .day)) (toZ-ofZ (c .before .fits .jdn))
 
 pub plain-record-spec : {M : Type 1} → statement M

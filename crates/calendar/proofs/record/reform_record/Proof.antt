@@ -5,10 +5,10 @@ use Prim.Native.Nat.{ℕ, _+_, _-_}
 use native.Mathlib.Omega.{arith}
 use borrow.Author.Needs.{needs, sfits-of}
 use mir.Facts.{toZ-ofZ}
-use Rattle.days.specs.Julian as J
-use Rattle.days.specs.Runs.{firstDay, julianMonth}
-use Rattle.inner.specs.Laws.{held-year}
-use Rattle.inner.specs.Natural.{heldYear}
+use Rattle.days.specs.ClosedJulian as J
+use Rattle.days.specs.ClosedRuns.{firstDay, julianMonth}
+use Rattle.inner.specs.Laws.{biased-year}
+use Rattle.inner.specs.Natural.{biasedYear}
 use Rattle.calendar.specs.Laws.{labelled-room, labelled-month, record-reform, reform-year-room, reform-month-room}
 use Rattle.calendar.proofs.record.reform_record.Statement.{statement}
 use Rattle.calendar.proofs.record.reform_record.Tie as tie
@@ -18,12 +18,12 @@ start c = c .before .before .before .before .before .before .before .before
 
 -- the first days of its year and its month
 year-first : (c : tie.After-lowered)
-    → c .before .before .before .before .first-day .result ≡ firstDay (start c .args .switch) (J.start (heldYear (start c .args .s .year))) (start c .args .s .held + 1 - start c .args .s .ordinal)
-year-first c = c .before .before .before .before .first-day .ensures ∙ ap (λ (j : ℕ). firstDay (start c .args .switch) j (start c .args .s .held + 1 - start c .args .s .ordinal)) (c .before .before .before .before .before .before .julian-start .ensures)
+    → c .before .before .before .before .first-day .result ≡ firstDay (start c .args .switch) (J.start (biasedYear (start c .args .s .year))) (start c .args .s .biased + 1 - start c .args .s .ordinal)
+year-first c = c .before .before .before .before .first-day .ensures ∙ ap (λ (j : ℕ). firstDay (start c .args .switch) j (start c .args .s .biased + 1 - start c .args .s .ordinal)) (c .before .before .before .before .before .before .julian-start .ensures)
 
 month-first : (c : tie.After-lowered)
-    → c .before .first-day2 .result ≡ firstDay (start c .args .switch) (julianMonth (heldYear (start c .args .s .year)) (start c .args .s .month)) (start c .args .s .held + 1 - start c .args .s .day)
-month-first c = c .before .first-day2 .ensures ∙ ap (λ (j : ℕ). firstDay (start c .args .switch) j (start c .args .s .held + 1 - start c .args .s .day)) (c .before .before .before .julian-month .ensures)
+    → c .before .first-day2 .result ≡ firstDay (start c .args .switch) (julianMonth (biasedYear (start c .args .s .year)) (start c .args .s .month)) (start c .args .s .biased + 1 - start c .args .s .day)
+month-first c = c .before .first-day2 .ensures ∙ ap (λ (j : ℕ). firstDay (start c .args .switch) j (start c .args .s .biased + 1 - start c .args .s .day)) (c .before .before .before .julian-month .ensures)
 
 add-past : tie.Need-add-past
 add-past c = record { fits = omega (arith, labelled-room (c .before .pre .1)) }
@@ -71,7 +71,7 @@ returns : tie.Need-returns
 returns c =
     let a = start c in
     rw (toZ-ofZ (a .fits .jdn)) (record-reform (a .args .calendar) (a .pre .0) (a .args .s) (a .pre .1) (a .pre .2) (a .pre .3)
-    (held-year (a .args .s .year) ∙ sym (c .lowered .ensures) ∙ sym (toZ-ofZ (sfits-of (c .lowered .ok)))) (year-first c) (month-first c))
+    (biased-year (a .args .s .year) ∙ sym (c .lowered .ensures) ∙ sym (toZ-ofZ (sfits-of (c .lowered .ok)))) (year-first c) (month-first c))
 
 pub reform-record-spec : {M : Type 1} → statement M
 reform-record-spec =

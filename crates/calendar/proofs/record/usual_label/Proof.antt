@@ -6,28 +6,28 @@ use native.Mathlib.Omega.{arith}
 use borrow.Author.Needs.{needs}
 use mir.Facts.{toZ-ofZ}
 use Rattle.days.specs.DayByDay.{Month}
-use Rattle.days.specs.Held.{year}
-use Rattle.days.specs.Runs.{Runs}
-use Rattle.inner.specs.Laws.{held-year, raised-year-held}
-use Rattle.inner.specs.Natural.{heldYear}
-use Rattle.changeover.specs.Laws.{year-in-room, year-wholly, ordinal-some}
-use Rattle.calendar.specs.Calendars.{meant}
+use Rattle.days.specs.BiasedDays.{year}
+use Rattle.days.specs.ClosedRuns.{Runs}
+use Rattle.inner.specs.Laws.{biased-year, raised-year-biased}
+use Rattle.inner.specs.Natural.{biasedYear}
+use Rattle.switches.specs.Laws.{year-in-room, year-wholly, ordinal-some}
+use Rattle.calendar.specs.Calendars.{definitionOf}
 use Rattle.calendar.specs.Rows.{refuses, passes}
 use Rattle.calendar.specs.Laws.{switch-runs, switch-made-up, whole-label, usual-ymd, whole-none}
 use Rattle.calendar.proofs.record.usual_label.Statement.{statement}
 use Rattle.calendar.proofs.record.usual_label.Tie as tie
 
-runs : (c : tie.After-known-told) → Runs (meant (c .before .before .before .before .args .calendar)) (c .before .switch .given .0 .0)
+runs : (c : tie.After-known-told) → Runs (definitionOf (c .before .before .before .before .args .calendar)) (c .before .switch .given .0 .0)
 runs c = switch-runs _ (rw (c .before .switch .given .1) at (c .before .before .before .switch-of .ensures))
 
 abbrev start : tie.After-raised → tie.Start
 start c = c .before .before .before .before .before .before .before
 
-year-is : (c : tie.After-raised) → year (heldYear (c .raised .result)) ≡ start c .args .year
-year-is c = held-year (c .raised .result) ∙ c .raised .ensures ∙ toZ-ofZ (start c .fits .year)
+year-is : (c : tie.After-raised) → year (biasedYear (c .raised .result)) ≡ start c .args .year
+year-is c = biased-year (c .raised .result) ∙ c .raised .ensures ∙ toZ-ofZ (start c .fits .year)
 
 room : (c : tie.After-year-in) → c .year-in .result .first < 2_000_000_000_000
-room c = year-in-room (raised-year-held (c .before .raised .ok)) (c .year-in .ensures)
+room c = year-in-room (raised-year-biased (c .before .raised .ok)) (c .year-in .ensures)
 
 month-is : (c : tie.After-raised) → Month (start c .args .month)
 month-is c = (c .before .before .if1 .left, c .before .if2 .left)
@@ -88,7 +88,7 @@ usual-spot-requires c κs =
     let o = c .before .before in
     let m = o .before .before in
     let y = m .before .before in
-    let (l, p) = whole-label (y .before .raised .result) (raised-year-held (y .before .raised .ok)) (year-wholly (y .year-in .ensures) (m .before .if3 .taken)) (rw (o .ordinal .given .1) at (m .md2ordinal .ensures)) in
+    let (l, p) = whole-label (y .before .raised .result) (raised-year-biased (y .before .raised .ok)) (year-wholly (y .year-in .ensures) (m .before .if3 .taken)) (rw (o .ordinal .given .1) at (m .md2ordinal .ensures)) in
     (runs (y .before .before .before .before), l, p)
 
 returns-3 : tie.Need-returns-3
@@ -96,7 +96,7 @@ returns-3 c =
     let m = c .before .before .before in
     let y = m .before .before in
     let a = start (y .before) in
-    rw (c .refusal-with3 .ensures) (whole-none (a .args .calendar) (runs (y .before .before .before .before)) (y .before .raised .result) (raised-year-held (y .before .raised .ok)) (year-is (y .before))
+    rw (c .refusal-with3 .ensures) (whole-none (a .args .calendar) (runs (y .before .before .before .before)) (y .before .raised .result) (raised-year-biased (y .before .raised .ok)) (year-is (y .before))
     (month-is (y .before)) (year-wholly (y .year-in .ensures) (m .before .if3 .taken)) (rw (c .before .enum-told2 .given .1) at (m .md2ordinal .ensures)))
 
 returns-4 : tie.Need-returns-4
@@ -105,7 +105,7 @@ returns-4 c =
     let m = o .before .before in
     let y = m .before .before in
     let a = start (y .before) in
-    let (l, p) = whole-label (y .before .raised .result) (raised-year-held (y .before .raised .ok)) (year-wholly (y .year-in .ensures) (m .before .if3 .taken)) (rw (o .ordinal .given .1) at (m .md2ordinal .ensures)) in
+    let (l, p) = whole-label (y .before .raised .result) (raised-year-biased (y .before .raised .ok)) (year-wholly (y .year-in .ensures) (m .before .if3 .taken)) (rw (o .ordinal .given .1) at (m .md2ordinal .ensures)) in
     usual-ymd (a .args .calendar) (runs (y .before .before .before .before)) _ (year-is (y .before)) l (c .usual-spot .result) (rw (toZ-ofZ (a .fits .year)) at (c .usual-spot .ensures))
 
 returns-5 : tie.Need-returns-5

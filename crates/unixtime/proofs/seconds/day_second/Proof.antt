@@ -7,7 +7,7 @@ use borrow.Author.Needs.{needs, sfits-of}
 use mir.Facts.{toZ-ofZ}
 use Rattle.whole.specs.Biased.{unbias}
 use Rattle.unixtime.specs.Promise.{outside-32}
-use Rattle.unixtime.specs.Laws.{time-below, time-above, held-time, day-second-at}
+use Rattle.unixtime.specs.Laws.{time-below, time-above, biased-time, day-second-at}
 use Rattle.unixtime.proofs.seconds.day_second.Statement.{statement}
 use Rattle.unixtime.proofs.seconds.day_second.Tie as tie
 
@@ -40,7 +40,7 @@ returns-3 : tie.Need-returns-3
 returns-3 c =
     let a = c .before .before .before in
     let x = a .raised64 .result - 9_223_186_283_400_785_408 in
-    day-second-at x (omega (arith, c .before .if2 .left)) (held-time (a .raised64 .result) x (omega (arith, c .before .before .if1 .left)) (time-is a)) (sym (toZ-ofZ (sfits-of (c .lowered .ok)) ∙ c .lowered .ensures)) refl
+    day-second-at x (omega (arith, c .before .if2 .left)) (biased-time (a .raised64 .result) x (omega (arith, c .before .before .if1 .left)) (time-is a)) (sym (toZ-ofZ (sfits-of (c .lowered .ok)) ∙ c .lowered .ensures)) refl
 
 pub day-second-spec : {M : Type 1} → statement M
 day-second-spec =

@@ -1,0 +1,74 @@
+-- What is said of a label, of a year and of a month allows one answer, whatever the day on which the calendar goes over.
+-- Assumes nothing.
+use mathlib.Core.Path.{_≡_, refl, sym, _∙_, ap}
+use mathlib.Core.Bool.{Bool}
+use Prim.Native.Nat.{ℕ, _-_, _≤_, _<_}
+use native.Mathlib.Omega.{arith}
+use Rattle.days.specs.ClosedJulian as J
+use Rattle.days.specs.ClosedGregorian as G
+use Rattle.days.specs.ClosedNumbers.{number}
+use Rattle.inner.specs.Natural.{biasedYear}
+use Rattle.switches.specs.declared.PlainYear.{PlainYear}
+use Rattle.switches.specs.declared.Spanned.{Spanned}
+use Rattle.switches.specs.declared.Found.{Found}
+use Rattle.switches.specs.declared.Found.the-variants as Found′
+use Rattle.inner.specs.Spots.{At, spot, at-number}
+use Rattle.switches.specs.Spots.{YearSpan, YearIn, begins-old, begins-new, SpansMonth, spans-month, no-month, NoneBelow, Finds, finds-old, finds-new, finds-gap, finds-none}
+
+pub year-span-one : (r y : ℕ) {a b i j : ℕ} → YearSpan r y a b → YearSpan r y i j → (a ≡ i) × (b ≡ j)
+year-span-one r y s t = (s .first-is ∙ sym (t .first-is), s .past-is ∙ sym (t .past-is))
+
+not-both : {r : ℕ} (k : ℕ) → k < r → r ≤ k → ⊥
+not-both k g h = omega arith
+
+pub year-in-one : (r y : ℕ) (p q : PlainYear) → YearIn r y p → YearIn r y q → p ≡ q
+year-in-one r y p q (begins-old g) (begins-old h) = refl
+year-in-one r y p q (begins-old g) (begins-new h) = absurd (not-both (J.start y) g h)
+year-in-one r y p q (begins-new g) (begins-old h) = absurd (not-both (J.start y) h g)
+year-in-one r y p q (begins-new g) (begins-new h) = refl
+
+pub spans-month-one : (r y m : ℕ) (a b : Spanned) → SpansMonth r y m a → SpansMonth r y m b → a ≡ b
+spans-month-one r y m a b (spans-month v) (spans-month w) = refl
+spans-month-one r y m a b (spans-month v) (no-month n) = absurd (n v)
+spans-month-one r y m a b (no-month n) (spans-month v) = absurd (n v)
+spans-month-one r y m a b (no-month n) (no-month i) = refl
+
+-- a label that is there has one day in a reckoning, and one ordinal
+module _ {leapAt : ℕ → Bool} {start : ℕ → ℕ} {k l y m d o p : ℕ} (z : ℕ) (a : At leapAt start k y m d o) (b : At leapAt start l y m d p) where
+  same-spot : spot k z o m d ≡ spot l z p m d
+  same-spot =
+      let e : k ≡ l = sym (at-number a) ∙ at-number b in
+      let f : o ≡ p = sym (a .ordinal-is) ∙ b .ordinal-is in
+      cc
+
+-- a Julian day before r leaves no room for an answer without one
+not-below : (y : ℕ) {r m d k o : ℕ} → k < r → At J.leapAt J.start k (biasedYear y) m d o → NoneBelow r y m d → ⊥
+not-below y {r} {m} {d} {k} g a n = never (number J.leapAt J.start (biasedYear y) m d) (at-number a) (n (a .there))
+  where
+    never : (i : ℕ) → i ≡ k → r ≤ i → ⊥
+    never i e h = omega arith
+
+-- a Gregorian day from r on is not before r
+not-in-gap : (y : ℕ) {r m d k o : ℕ} → r ≤ k → At G.leapAt G.start k (biasedYear y) m d o → number G.leapAt G.start (biasedYear y) m d < r → ⊥
+not-in-gap y {r} {m} {d} {k} g a h = never (number G.leapAt G.start (biasedYear y) m d) (at-number a) h
+  where
+    never : (i : ℕ) → i ≡ k → i < r → ⊥
+    never i e f = omega arith
+
+pub finds-one : (r y m d : ℕ) (a b : Found) → Finds r y m d a → Finds r y m d b → a ≡ b
+finds-one r y m d a b (finds-old g s) (finds-old h t) = ap Found′.At (same-spot y s t)
+finds-one r y m d a b (finds-old g s) (finds-new h t n) = absurd (not-below y g s n)
+finds-one r y m d a b (finds-old g s) (finds-gap t n h) = absurd (not-below y g s (λ i. n))
+finds-one r y m d a b (finds-old g s) (finds-none t n) = absurd (not-below y g s n)
+finds-one r y m d a b (finds-new g s n) (finds-old h t) = absurd (not-below y h t n)
+finds-one r y m d a b (finds-new g s n) (finds-new h t k) = ap Found′.At (same-spot y s t)
+finds-one r y m d a b (finds-new g s n) (finds-gap t i h) = absurd (not-in-gap y g s h)
+finds-one r y m d a b (finds-new g s n) (finds-none t i) = absurd (t (s .there))
+finds-one r y m d a b (finds-gap s n g) (finds-old h t) = absurd (not-below y h t (λ i. n))
+finds-one r y m d a b (finds-gap s n g) (finds-new h t i) = absurd (not-in-gap y h t g)
+finds-one r y m d a b (finds-gap s n g) (finds-gap t i h) = refl
+finds-one r y m d a b (finds-gap s n g) (finds-none t i) = absurd (t s)
+finds-one r y m d a b (finds-none s n) (finds-old h t) = absurd (not-below y h t n)
+finds-one r y m d a b (finds-none s n) (finds-new h t i) = absurd (s (t .there))
+finds-one r y m d a b (finds-none s n) (finds-gap t i h) = absurd (s t)
+finds-one r y m d a b (finds-none s n) (finds-none t i) = refl
