@@ -15,10 +15,10 @@ use crate::Date;
 use crate::Dated;
 use crate::Switch;
 use crate::Usual;
-use switches::Found;
 use inner::DayNumber;
 use inner::Spot;
 use monthdays::DayOrdinal;
+use switches::Found;
 
 // ---- From a day to its record
 

@@ -4,7 +4,6 @@
 pub mod DayByDay
 pub mod Examples
 pub mod KnownDays
-
 -- Any labelling of the days that rises, and any timeline that does.
 pub mod LabelOrder
 pub mod RisingLabels
@@ -12,11 +11,9 @@ pub mod RisingSpans
 pub mod RisingTimelines
 pub mod RisingPlaces
 pub mod RisingDecided
-
 -- One reckoning, day by day.
 pub mod ReckoningSteps
 pub mod ReckoningLabels
-
 -- Closed forms: days and years as biased natural numbers, and the label of a day by arithmetic on them.
 pub mod BiasedDays
 pub mod ClosedYear
@@ -31,7 +28,6 @@ pub mod ClosedNumbers
 pub mod ClosedRuns
 pub mod ClosedWeekdays
 pub mod ClosedEnds
-
 -- Which reformations are accepted, and what every accepted calendar has.
 pub mod ReformationRules
 pub mod ReformationTable

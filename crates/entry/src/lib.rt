@@ -7,8 +7,8 @@ ghost use Rattle.dateparse.specs.Promise.{ParseDate};
 ghost use Rattle.entry.specs.Entry.{LineAnswer};
 ghost use Rattle.entry.specs.Laws.{TextFrom};
 use calendar::Calendar;
-use calendar::Dated;
 use calendar::Chosen;
+use calendar::Dated;
 
 // The longest line that is read.
 pub const LONGEST_ENTRY: usize = 512;

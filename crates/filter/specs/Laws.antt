@@ -30,9 +30,9 @@ input-ends′ (pos zero) h e i = refl
 input-ends′ (pos (suc k)) h e i = absurd (omega (arith, e))
 input-ends′ (negsuc k) h e i = absurd (true≢false h)
 
-came′ : (g : ℤ) {n : ℕ} → n ≡ clamped g blockSize → 1 ≤ n → Block n ≡ arrivedOf g
+came′ : (g : ℤ) {n : ℕ} → n ≡ clamped g blockSize → 1 ≤ n → Block 0 n ≡ arrivedOf g
 came′ (pos zero) e i = absurd (omega (arith, e))
-came′ (pos (suc k)) e i = ap Block e
+came′ (pos (suc k)) e i = ap (Block 0) e
 came′ (negsuc k) e i = absurd (omega (arith, e))
 
 -- of a number that was handed on as g
@@ -43,8 +43,8 @@ module _ {g z : ℤ} (e : g ≡ z) where
   pub input-ends : {n m : ℕ} → m ≡ blockSize → ltZ g (pos 0) ≡ false → n ≡ clamped g m → n < 1 → InputEnds ≡ arrivedOf z
   input-ends l h c i = subst (λ (x : ℤ). InputEnds ≡ arrivedOf x) e (input-ends′ g h (c ∙ ap (clamped g) l) i)
 
-  pub came : {n m : ℕ} → m ≡ blockSize → n ≡ clamped g m → 1 ≤ n → Block n ≡ arrivedOf z
-  came {n} l c i = subst (λ (x : ℤ). Block n ≡ arrivedOf x) e (came′ g (c ∙ ap (clamped g) l) i)
+  pub came : {n m : ℕ} → m ≡ blockSize → n ≡ clamped g m → 1 ≤ n → Block 0 n ≡ arrivedOf z
+  came {n} l c i = subst (λ (x : ℤ). Block 0 n ≡ arrivedOf x) e (came′ g (c ∙ ap (clamped g) l) i)
 
 -- ---- the room for a read lies in the block
 

@@ -10,7 +10,7 @@ use Rattle.writer.specs.Promise.{put}
 use Rattle.filter.specs.declared.Phase.{Phase}
 use Rattle.filter.specs.declared.Phase.the-variants.{Reading, Midway, Closing, Failing, Ended}
 use Rattle.filter.specs.declared.Event.{Event}
-use Rattle.filter.specs.declared.Event.the-variants.{Block, Rest, InputEnds, Unread, Unwritten, Finished}
+use Rattle.filter.specs.declared.Event.the-variants.{Block, InputEnds, Unread, Unwritten, Finished}
 use Rattle.filter.specs.declared.State.{State}
 
 -- there is something left to do
@@ -46,17 +46,21 @@ roomOf Ended w = 0
 abbrev pub arrivedOf : ℤ → Event
 arrivedOf (negsuc k) = Unread
 arrivedOf (pos zero) = InputEnds
-arrivedOf (pos (suc k)) = Block (min (suc k) blockSize)
+arrivedOf (pos (suc k)) = Block 0 (min (suc k) blockSize)
 
-abbrev pub eventOf : Phase → Bool → ℤ → Event
-eventOf Reading true g = arrivedOf g
-eventOf Reading false g = Unwritten
-eventOf Midway true g = Rest
-eventOf Midway false g = Unwritten
-eventOf Closing true g = Finished
-eventOf Closing false g = Unwritten
-eventOf Failing w g = Finished
-eventOf Ended w g = Finished
+-- what has happened, in a phase, with a block that has n bytes and is used up to `at`, by whether the output was written and what the read answered
+abbrev pub eventIn : Phase → ℕ → ℕ → Bool → ℤ → Event
+eventIn Reading at n true g = arrivedOf g
+eventIn Reading at n false g = Unwritten
+eventIn Midway at n true g = Block at n
+eventIn Midway at n false g = Unwritten
+eventIn Closing at n true g = Finished
+eventIn Closing at n false g = Unwritten
+eventIn Failing at n w g = Finished
+eventIn Ended at n w g = Finished
+
+abbrev pub eventOf : State → Bool → ℤ → Event
+eventOf s = eventIn (s .phase) (s .at) (s .count)
 
 abbrev pub stateWith : Phase → ℕ → State
 stateWith p u = record { phase = p; at = 0; count = 0; held = 0; used = u }

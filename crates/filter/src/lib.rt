@@ -36,10 +36,8 @@ pub struct State {
 
 // What has happened since the last call.
 pub enum Event {
-    // So many bytes were read.
-    Block(usize),
-    // The output was written, and the block is not used up.
-    Rest,
+    // The bytes of the block from one offset up to another are there to work on.
+    Block(usize, usize),
     InputEnds,
     Unread,
     Unwritten,
@@ -108,7 +106,7 @@ pub fn front(s: &[u8], size: usize) -> &[u8]
 
 // What has happened, by whether the output was written and what the read answered.
 pub fn happened(state: State, written: bool, got: isize, block: &[u8; BLOCK_SIZE]) -> Event
-    ensures { λ e. ⌜ e ≡ eventOf (state .phase) written got ⌝ }
+    ensures { λ e. ⌜ e ≡ eventOf state written got ⌝ }
 {
     let phase = state.phase;
     match phase {
@@ -120,7 +118,7 @@ pub fn happened(state: State, written: bool, got: isize, block: &[u8; BLOCK_SIZE
         }
         Phase::Midway => {
             if written {
-                return Event::Rest;
+                return Event::Block(state.at, state.count);
             }
             Event::Unwritten
         }
@@ -145,7 +143,7 @@ fn arrived(got: isize, block: &[u8; BLOCK_SIZE]) -> Event
     if count < 1 {
         return Event::InputEnds;
     }
-    Event::Block(count)
+    Event::Block(0, count)
 }
 
 // The message is put into the output, and the program ends once it is written.

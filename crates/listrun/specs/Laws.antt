@@ -71,5 +71,5 @@ module _ {b c l o l′ o′ : List ℕ} {from n h at h′ u : ℕ} {s : State} (
   uses-up i q = subst (Advances b l o from n h l′ o′) (sym q) (Advances.used-up (lists-in e w) i)
 
 -- by what has happened, where the answer of the read was handed on as g
-pub goes : {b l o l′ o′ : List ℕ} {s s′ : State} {x y : Event} (w : Bool) {g z : ℤ} → g ≡ z → x ≡ eventOf (s .phase) w g → x ≡ y → GoesOn b l o s y l′ o′ s′ → GoesOn b l o s (eventOf (s .phase) w z) l′ o′ s′
-goes {b} {l} {o} {l′} {o′} {s} {s′} w d e f t = subst (λ (v : Event). GoesOn b l o s v l′ o′ s′) (sym f ∙ e ∙ ap (eventOf (s .phase) w) d) t
+pub goes : {b l o l′ o′ : List ℕ} {s s′ : State} {x y : Event} (w : Bool) {g z : ℤ} → g ≡ z → x ≡ eventOf s w g → x ≡ y → GoesOn b l o s y l′ o′ s′ → GoesOn b l o s (eventOf s w z) l′ o′ s′
+goes {b} {l} {o} {l′} {o′} {s} {s′} w d e f t = subst (λ (v : Event). GoesOn b l o s v l′ o′ s′) (sym f ∙ e ∙ ap (eventOf s w) d) t

@@ -33,8 +33,7 @@ closes-one : {l o : List ℕ} {h : ℕ} {p q : List ℕ} {r s : State} → Close
 closes-one {o = o} (Closes.closes x) (Closes.closes y) = let e = last-line-one x y in (ap (put o 0) e, ap (λ (t : List ℕ). stateWith Closing (length t)) e)
 
 pub goes-on-one : {b l o : List ℕ} {s : State} {v : Event} {k m p q : List ℕ} {r t : State} → GoesOn b l o s v k p r → GoesOn b l o s v m q t → (k ≡ m) × (p ≡ q) × (r ≡ t)
-goes-on-one (GoesOn.next-block x) (GoesOn.next-block y) = advances-one x y
-goes-on-one (GoesOn.same-block x) (GoesOn.same-block y) = advances-one x y
+goes-on-one (GoesOn.works-on x) (GoesOn.works-on y) = advances-one x y
 goes-on-one (GoesOn.last-line x) (GoesOn.last-line y) = let (e, f) = closes-one x y in (refl, e, f)
 goes-on-one (GoesOn.cannot-read x) (GoesOn.cannot-read y) = let (e, f) = puts-message-one x y in (refl, e, f)
 goes-on-one (GoesOn.cannot-write x) (GoesOn.cannot-write y) = let (e, f) = puts-message-one x y in (refl, e, f)

@@ -10,7 +10,7 @@ use Rattle.listing.specs.Promise.{LastLine, blockState, Lists}
 use Rattle.filter.specs.declared.Phase.{Phase}
 use Rattle.filter.specs.declared.Phase.the-variants.{Reading, Midway, Closing, Ended}
 use Rattle.filter.specs.declared.Event.{Event}
-use Rattle.filter.specs.declared.Event.the-variants.{Block, Rest, InputEnds, Unread, Unwritten, Finished}
+use Rattle.filter.specs.declared.Event.the-variants.{Block, InputEnds, Unread, Unwritten, Finished}
 use Rattle.filter.specs.declared.State.{State}
 use Rattle.filter.specs.Promise.{stateWith, PutsMessage}
 
@@ -39,8 +39,7 @@ unwritten = bytes "list: standard output could not be written; the listing is no
 
 -- A turn with the block b, the line buffer l and the output o, by what has happened.
 pub data GoesOn (b l o : List ℕ) (s : State) : Event → List ℕ → List ℕ → State → Type 0 where
-  next-block : {n : ℕ} {l′ o′ : List ℕ} {s′ : State} → Advances b l o 0 n (s .held) l′ o′ s′ → GoesOn b l o s (Block n) l′ o′ s′
-  same-block : {l′ o′ : List ℕ} {s′ : State} → Advances b l o (s .at) (s .count) (s .held) l′ o′ s′ → GoesOn b l o s Rest l′ o′ s′
+  works-on : {from n : ℕ} {l′ o′ : List ℕ} {s′ : State} → Advances b l o from n (s .held) l′ o′ s′ → GoesOn b l o s (Block from n) l′ o′ s′
   last-line : {o′ : List ℕ} {s′ : State} → Closes l (s .held) o o′ s′ → GoesOn b l o s InputEnds l o′ s′
   cannot-read : {o′ : List ℕ} {s′ : State} → PutsMessage unread o o′ s′ → GoesOn b l o s Unread l o′ s′
   cannot-write : {o′ : List ℕ} {s′ : State} → PutsMessage unwritten o o′ s′ → GoesOn b l o s Unwritten l o′ s′

@@ -22,7 +22,7 @@ use Rattle.listing.specs.Theorems.{Calls, joined, calls-list}
 use Rattle.filter.specs.declared.Phase.{Phase}
 use Rattle.filter.specs.declared.Phase.the-variants.{Reading, Midway, Closing, Failing, Ended}
 use Rattle.filter.specs.declared.State.{State}
-use Rattle.filter.specs.Promise.{goesOn, outputOf, roomOf, eventOf, blockSize}
+use Rattle.filter.specs.Promise.{goesOn, outputOf, roomOf, eventOf, eventIn, blockSize}
 use Rattle.entry.specs.Entry.{longestEntry}
 use Rattle.linetext.specs.Line.{longestLine}
 use Rattle.listrun.specs.Promise.{Starts, Advances, Closes, GoesOn}
@@ -40,7 +40,7 @@ pub record Reads (m : ℕ) (b c b′ : List ℕ) : Type 0 where
 pub data Turns : State → List ℕ → List ℕ → List ℕ → List ℕ → List ℕ → Type 0 where
   over : {s : State} {b l o : List ℕ} → goesOn (s .phase) ≡ false → Turns s b l o [] []
   turn : {s s′ : State} {b b′ l l′ o o′ c i t : List ℕ} → goesOn (s .phase) ≡ true → outputOf (s .phase) ≡ pos 1 → Reads (roomOf (s .phase) true) b c b′
-      → GoesOn b′ l o s (eventOf (s .phase) true (pos (length c))) l′ o′ s′ → Turns s′ b′ l′ o′ i t → Turns s b l o (c ++ i) (take (s .used) o ++ t)
+      → GoesOn b′ l o s (eventOf s true (pos (length c))) l′ o′ s′ → Turns s′ b′ l′ o′ i t → Turns s b l o (c ++ i) (take (s .used) o ++ t)
 
 -- ---- what is still to come, by the phase
 
@@ -92,21 +92,21 @@ advance-goes {i = i} (Advances.within w k) (After.midway c) = takes i w (c .part
 put-front : (o t : List ℕ) → take (length t) (put o 0 t) ≡ t
 put-front o t = take-at t (drop (0 + length t) o) (length t) refl
 
-closing-turn : {s s′ : State} {a b l l′ o o′ i t : List ℕ} → GoesOn b l o s (eventOf Closing true (pos 0)) l′ o′ s′ → After s′ b l′ o′ i t (s′ .phase) → After s a l o i (take (s .used) o ++ t) Closing
+closing-turn : {s s′ : State} {a b l l′ o o′ i t : List ℕ} → GoesOn b l o s (eventIn Closing (s .at) (s .count) true (pos 0)) l′ o′ s′ → After s′ b l′ o′ i t (s′ .phase) → After s a l o i (take (s .used) o ++ t) Closing
 closing-turn {s} {o = o} GoesOn.ends (After.ended e f) = After.closing e (ap (λ (x : List ℕ). take (s .used) o ++ x) f ∙ append-nil (take (s .used) o))
 
-midway-turn : {s s′ : State} {b l l′ o o′ i t : List ℕ} → GoesOn b l o s (eventOf Midway true (pos 0)) l′ o′ s′ → After s′ b l′ o′ i t (s′ .phase) → After s b l o i (take (s .used) o ++ t) Midway
-midway-turn {t = t} (GoesOn.same-block a) c = let g = advance-goes a c in After.midway (record { parts = g .parts; lines = t; calls = g .calls; all = g .all; text = refl })
+midway-turn : {s s′ : State} {b l l′ o o′ i t : List ℕ} → GoesOn b l o s (eventIn Midway (s .at) (s .count) true (pos 0)) l′ o′ s′ → After s′ b l′ o′ i t (s′ .phase) → After s b l o i (take (s .used) o ++ t) Midway
+midway-turn {t = t} (GoesOn.works-on a) c = let g = advance-goes a c in After.midway (record { parts = g .parts; lines = t; calls = g .calls; all = g .all; text = refl })
 
-reading-turn : {s s′ : State} {a b l l′ o o′ i t : List ℕ} (c : List ℕ) → length c ≤ blockSize → take (length c) b ≡ c → GoesOn b l o s (eventOf Reading true (pos (length c))) l′ o′ s′ → After s′ b l′ o′ i t (s′ .phase)
+reading-turn : {s s′ : State} {a b l l′ o o′ i t : List ℕ} (c : List ℕ) → length c ≤ blockSize → take (length c) b ≡ c → GoesOn b l o s (eventIn Reading (s .at) (s .count) true (pos (length c))) l′ o′ s′ → After s′ b l′ o′ i t (s′ .phase)
     → After s a l o (c ++ i) (take (s .used) o ++ t) Reading
 reading-turn {s} {o = o} [] h e (GoesOn.last-line (Closes.closes {t = u} x)) (After.closing f g) =
     After.reading (record { parts = []; lines = u; calls = Calls.ends x; all = sym f; text = ap (λ (y : List ℕ). take (s .used) o ++ y) (g ∙ put-front o u) })
-reading-turn {b = b} {i = i} {t} (x ∷ c) h e (GoesOn.next-block a) q =
+reading-turn {b = b} {i = i} {t} (x ∷ c) h e (GoesOn.works-on a) q =
     let g = advance-goes a q in
     After.reading (record { parts = g .parts; lines = t; calls = g .calls; all = g .all ∙ ap (λ (y : List ℕ). y ++ i) (ap (λ (k : ℕ). take k b) (min-eq-left h) ∙ e); text = refl })
 
-turn-follows : (p : Phase) {s s′ : State} {b b′ l l′ o o′ i t : List ℕ} (c : List ℕ) → goesOn p ≡ true → Reads (roomOf p true) b c b′ → GoesOn b′ l o s (eventOf p true (pos (length c))) l′ o′ s′ → After s′ b′ l′ o′ i t (s′ .phase)
+turn-follows : (p : Phase) {s s′ : State} {b b′ l l′ o o′ i t : List ℕ} (c : List ℕ) → goesOn p ≡ true → Reads (roomOf p true) b c b′ → GoesOn b′ l o s (eventIn p (s .at) (s .count) true (pos (length c))) l′ o′ s′ → After s′ b′ l′ o′ i t (s′ .phase)
     → After s b l o (c ++ i) (take (s .used) o ++ t) p
 turn-follows Reading c e r g q = reading-turn c (r .short) (r .front) g q
 turn-follows Midway {s} {s′} {b} {b′} {l} {l′} {o} {o′} {i} {t} [] e r g q =

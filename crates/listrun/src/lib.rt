@@ -36,11 +36,10 @@ pub fn go_on(
     line: &mut [u8; LONGEST_ENTRY],
     out: &mut [u8; BLOCK_SIZE],
 ) -> State
-    ensures { λ s. ⌜ GoesOn (now (block .entry)) (now (line .entry)) (now (out .entry)) state (eventOf (state .phase) written got) (now (line .exit)) (now (out .exit)) s ⌝ }
+    ensures { λ s. ⌜ GoesOn (now (block .entry)) (now (line .entry)) (now (out .entry)) state (eventOf state written got) (now (line .exit)) (now (out .exit)) s ⌝ }
 {
     match filter::happened(state, written, got, block) {
-        Event::Block(count) => advance(block, 0, count, line, state.held, out),
-        Event::Rest => advance(block, state.at, state.count, line, state.held, out),
+        Event::Block(from, count) => advance(block, from, count, line, state.held, out),
         Event::InputEnds => close(line, state.held, out),
         Event::Unread => filter::say(&UNREAD, out),
         Event::Unwritten => filter::say(&UNWRITTEN, out),

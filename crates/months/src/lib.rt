@@ -12,13 +12,13 @@ use calendar::Dated;
 use calendar::Switch;
 use calendar::Told;
 use calendar::switch_of;
+use refusals::refusal_with;
 use switches::Found;
 use switches::MonthSpan;
 use switches::Spanned;
 use switches::find;
 use switches::month_span;
 use switches::year_span;
-use refusals::refusal_with;
 use whole::raised;
 
 // ---- Years

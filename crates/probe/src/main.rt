@@ -9,11 +9,11 @@ mod text;
 mod walk;
 
 use calendar::Calendar;
+use calendar::Chosen;
 use calendar::Date;
 use calendar::Dated;
 use calendar::ReformDate;
 use calendar::ReformDay;
-use calendar::Chosen;
 use query::Head;
 use query::Numbers;
 use reply::Reply;

@@ -1,8 +1,8 @@
 // The fields of a query, which tabs part. A number that is missing counts as 0.
 use calendar::Calendar;
+use calendar::Chosen;
 use calendar::Date;
 use calendar::Dated;
-use calendar::Chosen;
 use calendar::Refusal;
 use numbertext::Number;
 use numbertext::SignedNumber;

@@ -4,7 +4,7 @@ use mathlib.Core.Path.{sym, _∙_, ap, ap₂}
 use mathlib.Core.Bool.{Bool}
 use mir.Facts.{toZ-ofZ}
 use Rattle.filter.specs.declared.Phase.{Phase}
-use Rattle.filter.specs.Promise.{arrivedOf, eventOf}
+use Rattle.filter.specs.Promise.{arrivedOf, eventIn}
 use borrow.Author.Needs.{needs}
 use Rattle.filter.proofs.happened.Statement.{statement}
 use Rattle.filter.proofs.happened.Tie as tie
@@ -16,13 +16,17 @@ arrived-requires : tie.Need-arrived-requires
 arrived-requires c κs = search needs
 
 returns : tie.Need-returns
-returns c = c .arrived .ensures ∙ ap arrivedOf (toZ-ofZ (c .before .before .before .before .fits .got)) ∙ sym (ap₂ (λ (p : Phase) (w : Bool). eventOf p w (c .before .before .before .before .args .got)) (c .before .before .enum-told .given .1) (c .before .if1 .taken))
+returns c =
+    let a = c .before .before .before .before .args in
+    c .arrived .ensures ∙ ap arrivedOf (toZ-ofZ (c .before .before .before .before .fits .got)) ∙ sym (ap₂ (λ (p : Phase) (w : Bool). eventIn p (a .state .at) (a .state .count) w (a .got)) (c .before .before .enum-told .given .1) (c .before .if1 .taken))
 
 enum-told-2 : tie.Need-enum-told-2
 enum-told-2 c = search needs
 
 returns-2 : tie.Need-returns-2
-returns-2 c = search needs
+returns-2 c =
+    let a = c .before .before .before .args in
+    sym (ap₂ (λ (p : Phase) (w : Bool). eventIn p (a .state .at) (a .state .count) w (a .got)) (c .before .enum-told2 .given .1) (c .if2 .taken))
 
 enum-told-3 : tie.Need-enum-told-3
 enum-told-3 c = search needs

@@ -1,6 +1,5 @@
 -- `listrun::go_on` meets its promise.
 -- Assumes nothing.
-use mathlib.Core.Path.{sym, refl}
 use mir.Facts.{toZ-ofZ}
 use Rattle.whole.specs.Text.{bytes}
 use Rattle.listrun.specs.Promise.{GoesOn, unread, unwritten}
@@ -12,8 +11,8 @@ use Rattle.listrun.proofs.go_on.Tie as tie
 happened-requires : tie.Need-happened-requires
 happened-requires c κs = search needs
 
-enum-known-count : tie.Need-enum-known-count
-enum-known-count c = search needs
+enum-known-from : tie.Need-enum-known-from
+enum-known-from c = search needs
 
 advance-requires : tie.Need-advance-requires
 advance-requires c κs = search needs
@@ -21,17 +20,11 @@ advance-requires c κs = search needs
 enum-told : tie.Need-enum-told
 enum-told c = search needs
 
-advance-requires-2 : tie.Need-advance-requires-2
-advance-requires-2 c κs = search needs
-
-enum-told-2 : tie.Need-enum-told-2
-enum-told-2 c = search needs
-
 close-requires : tie.Need-close-requires
 close-requires c κs = search needs
 
-enum-told-3 : tie.Need-enum-told-3
-enum-told-3 c = search needs
+enum-told-2 : tie.Need-enum-told-2
+enum-told-2 c = search needs
 
 slice-aggregate-say : tie.Need-slice-aggregate-say
 slice-aggregate-say c = search needs
@@ -39,8 +32,8 @@ slice-aggregate-say c = search needs
 say-requires : tie.Need-say-requires
 say-requires c κs = search needs
 
-enum-told-4 : tie.Need-enum-told-4
-enum-told-4 c = search needs
+enum-told-3 : tie.Need-enum-told-3
+enum-told-3 c = search needs
 
 slice-aggregate-say-2 : tie.Need-slice-aggregate-say-2
 slice-aggregate-say-2 c = search needs
@@ -48,54 +41,48 @@ slice-aggregate-say-2 c = search needs
 say-requires-2 : tie.Need-say-requires-2
 say-requires-2 c κs = search needs
 
-enum-told-5 : tie.Need-enum-told-5
-enum-told-5 c = search needs
+enum-told-4 : tie.Need-enum-told-4
+enum-told-4 c = search needs
 
 state-with-requires : tie.Need-state-with-requires
 state-with-requires c κs = search needs
 
 returns : tie.Need-returns
-returns c = goes (c .before .before .before .before .before .before .before .args .written) (toZ-ofZ (c .before .before .before .before .before .before .before .fits .got)) (c .before .before .before .before .before .before .happened .ensures) (c .before .before .before .before .count .given .1) (GoesOn.next-block (c .advance .ensures))
+returns c = goes (c .before .before .before .before .before .before .before .args .written) (toZ-ofZ (c .before .before .before .before .before .before .before .fits .got)) (c .before .before .before .before .before .before .happened .ensures) (c .before .before .before .before .from .given .1) (GoesOn.works-on (c .advance .ensures))
 
 returns-2 : tie.Need-returns-2
-returns-2 c = goes (c .before .before .before .before .before .before .args .written) (toZ-ofZ (c .before .before .before .before .before .before .fits .got)) (c .before .before .before .before .before .happened .ensures) (c .before .before .before .enum-told .given .1) (GoesOn.same-block (c .advance2 .ensures))
+returns-2 c = goes (c .before .before .before .before .before .before .args .written) (toZ-ofZ (c .before .before .before .before .before .before .fits .got)) (c .before .before .before .before .before .happened .ensures) (c .before .before .before .enum-told .given .1) (GoesOn.last-line (c .close .ensures))
 
 returns-3 : tie.Need-returns-3
-returns-3 c = goes (c .before .before .before .before .before .before .args .written) (toZ-ofZ (c .before .before .before .before .before .before .fits .got)) (c .before .before .before .before .before .happened .ensures) (c .before .before .before .enum-told2 .given .1) (GoesOn.last-line (c .close .ensures))
+unfolding unread bytes
+returns-3 c = goes (c .before .before .before .before .before .before .args .written) (toZ-ofZ (c .before .before .before .before .before .before .fits .got)) (c .before .before .before .before .before .happened .ensures) (c .before .before .before .enum-told2 .given .1) (GoesOn.cannot-read (c .say .ensures))
 
 returns-4 : tie.Need-returns-4
-unfolding unread bytes
-returns-4 c = goes (c .before .before .before .before .before .before .args .written) (toZ-ofZ (c .before .before .before .before .before .before .fits .got)) (c .before .before .before .before .before .happened .ensures) (c .before .before .before .enum-told3 .given .1) (GoesOn.cannot-read (c .say .ensures))
+unfolding unwritten bytes
+returns-4 c = goes (c .before .before .before .before .before .before .args .written) (toZ-ofZ (c .before .before .before .before .before .before .fits .got)) (c .before .before .before .before .before .happened .ensures) (c .before .before .before .enum-told3 .given .1) (GoesOn.cannot-write (c .say2 .ensures))
 
 returns-5 : tie.Need-returns-5
-unfolding unwritten bytes
-returns-5 c = goes (c .before .before .before .before .before .before .args .written) (toZ-ofZ (c .before .before .before .before .before .before .fits .got)) (c .before .before .before .before .before .happened .ensures) (c .before .before .before .enum-told4 .given .1) (GoesOn.cannot-write (c .say2 .ensures))
-
-returns-6 : tie.Need-returns-6
-returns-6 c = goes (c .before .before .before .before .args .written) (toZ-ofZ (c .before .before .before .before .fits .got)) (c .before .before .before .happened .ensures) (c .before .enum-told5 .given .1) (rw (c .state-with .ensures) GoesOn.ends)
+returns-5 c = goes (c .before .before .before .before .args .written) (toZ-ofZ (c .before .before .before .before .fits .got)) (c .before .before .before .happened .ensures) (c .before .enum-told4 .given .1) (rw (c .state-with .ensures) GoesOn.ends)
 
 pub go-on-spec : {M : Type 1} → statement M
 go-on-spec =
     tie.close
     (tie.spec
     happened-requires
-    enum-known-count
+    enum-known-from
     advance-requires
     enum-told
-    advance-requires-2
-    enum-told-2
     close-requires
-    enum-told-3
+    enum-told-2
     slice-aggregate-say
     say-requires
-    enum-told-4
+    enum-told-3
     slice-aggregate-say-2
     say-requires-2
-    enum-told-5
+    enum-told-4
     state-with-requires
     returns
     returns-2
     returns-3
     returns-4
-    returns-5
-    returns-6)
+    returns-5)
