@@ -58,7 +58,7 @@ use Rattle.calendar.specs.Promise.{refused, refusedReformation, Reforms,
 use Rattle.calendar.specs.One.{whole, record-one}
 use Rattle.calendar.specs.Natural.{SwitchIs, switches-at, no-calendar, DayInYear, LabelledAt, old, new, OnSpot, OfALabel, plainRecord, Plain, SpotAt, UsualLabel, UsualOrdinal, OnUsualSpot, InTurning, fieldsOf}
 
--- ---- Where a calendar goes over
+-- ---- Where a calendar switches
 pub switch-accepted : {r : ℤ} {k : ℕ} → Judges r (Judgement′.Accepted k) → SwitchIs (Reforming r) (Switch′.At k)
 switch-accepted {k = k} (accepts-biased (all-three a) e) = subst (λ (r : ℤ). SwitchIs (Reforming r) (Switch′.At k)) e (switches-at (reforming-runs k (subst AcceptedReformation (sym e) a)))
 

@@ -67,7 +67,7 @@ pub record SpotAt (k y o : ℕ) (leap : Bool) (s : Spot) : Type 0 where
 
 -- ---- Usual dates
 
--- the answer is as P says; or the year is one of a switch, and Q holds of the day on which the calendar goes over
+-- the answer is as P says; or the year is one of a switch, and Q holds of the day on which the calendar switches
 abbrev pub Usually : (Dated → Type 0) → (ℕ → Type 0) → Usual → Type 0
 Usually P Q (Usual′.Date d) = P (Dated′.Date d)
 Usually P Q (Usual′.Refused f) = P (Dated′.Refused f)

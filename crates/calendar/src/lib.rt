@@ -87,9 +87,9 @@ pub enum Near {
     Other,
 }
 
-// ---- Where a calendar goes over
+// ---- Where a calendar switches
 
-// A calendar is Julian below a biased day and Gregorian from it on. The Julian one goes over past every day that is looked at, the Gregorian
+// A calendar is Julian below a biased day and Gregorian from it on. The Julian one switches after every day that is looked at, the Gregorian
 // one before.
 pub enum Switch {
     At(u64),
@@ -109,7 +109,7 @@ pub fn switch_of(calendar: Calendar) -> Switch
     }
 }
 
-// What is found in line: the answer in a year that is wholly in one reckoning, or where the calendar goes over if the year is not.
+// What is found in line: the answer in a year that is wholly in one reckoning, or where the calendar switches if the year is not.
 enum Usual {
     Date(Date),
     Refused(Refusal),

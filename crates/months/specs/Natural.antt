@@ -30,7 +30,7 @@ pub data Spans (c : Calendar) (z : ℤ) (m : ℕ) : Spanned → Type 0 where
   no-calendar : ¬ Accepted c → Spans c z m (Spanned′.Refused made-up)
   no-month : Accepted c → ¬ Month m → Spans c z m (Spanned′.Refused (refusal 3 (pos m)))
 
--- a biased day is of the month, and in the Gregorian one where it is not before the day on which the calendar goes over
+-- a biased day is of the month, and in the Gregorian one where it is not before the day on which the calendar switches
 pub record Inside (s : MonthSpan) (k : ℕ) : Type 0 where
   pub from : s .first ≤ k
   pub few : k + 1 - s .first < 2 ^ 32

@@ -1,4 +1,4 @@
--- What is said of a label, of a year and of a month allows one answer, whatever the day on which the calendar goes over.
+-- What is said of a label, of a year and of a month allows one answer, whatever the day on which the calendar switches.
 -- Assumes nothing.
 use mathlib.Core.Path.{_≡_, refl, sym, _∙_, ap}
 use mathlib.Core.Bool.{Bool}

@@ -1,4 +1,4 @@
--- What the functions say, of days and years that are biased as naturals and of a calendar that goes over on the biased day r.
+-- What the functions say, of days and years that are biased as naturals and of a calendar that switches on the biased day r.
 -- Assumes nothing.
 use mathlib.Core.Path.{_≡_}
 use mathlib.Core.Bool.{Bool}

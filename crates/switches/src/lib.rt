@@ -1,5 +1,5 @@
-// A calendar that goes over from the Julian reckoning to the Gregorian one on a biased day, on naturals: which day bears a label, and where a
-// year or a month begins and ends. A calendar of one reckoning goes over past every day that is looked at, or before all of them.
+// A calendar that switches from the Julian reckoning to the Gregorian one on a biased day, on naturals: which day bears a label, and where a
+// year or a month begins and ends. A calendar of one reckoning switches after every day that is looked at, or before all of them.
 pub mod reformation;
 
 ghost use mathlib.Core.Path.{_≡_};
@@ -76,7 +76,7 @@ pub fn year_in(switch: u64, year: u32) -> PlainYear
 
 // ---- The days of a month
 
-// A month of a calendar that goes over on day `switch`: its first day, the first day past it, and its first day in the Gregorian reckoning,
+// A month of a calendar that switches on day `switch`: its first day, the first day past it, and its first day in the Gregorian reckoning,
 // from which its Gregorian days count. The first two are one day where the month has no day.
 pub struct MonthSpan {
     pub switch: u64,

@@ -1,4 +1,4 @@
-// The days on which a calendar can go over from Julian dates to Gregorian ones, and why it cannot on the others.
+// The days on which a calendar can switch from Julian dates to Gregorian ones, and why it cannot on the others.
 
 ghost use Rattle.switches.specs.Judging.{Judges};
 
