@@ -1,4 +1,5 @@
 // The search for a byte.
+// For the crates above.
 
 ghost use Prim.Native.Nat.{_+_, _<_, _≤_};
 ghost use lib.ListN.{length};

@@ -11,11 +11,11 @@ use Rattle.linetext.specs.declared.LineNumbers.{LineNumbers}
 use Rattle.linetext.specs.declared.Line.{Line}
 use Rattle.linetext.specs.declared.Line.the-variants as Line′
 
--- the columns of a date: its weekday is that of its day number
+-- the numbers in the line of a date: its weekday is that of its day number
 abbrev pub numbersOf : Date → LineNumbers
 numbersOf d = record { jdn = d .jdn; year = d .year; ordinal = d .ordinal; month = d .month; day = d .day; weekday = weekday (d .jdn) }
 
--- a refusal has its own
+-- the line of an answer: the numbers of the date, or the refusal as it is
 abbrev pub lineOf : Dated → Line
 lineOf (Dated′.Date d) = Line′.Numbers (numbersOf d)
 lineOf (Dated′.Refused f) = Line′.Refusal f

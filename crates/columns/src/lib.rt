@@ -1,4 +1,5 @@
 // The columns of the listing: the numbers that stand in the line of an answer, and the header over them.
+// For the crates above; `listing` passes `put_header` on to users.
 
 ghost use mathlib.Core.Path.{_≡_};
 ghost use Rattle.writer.specs.Promise.{Writes};

@@ -1,4 +1,5 @@
 // A line of a register: a calendar name, a tab and a date text. The answer to it is the day that it names, or its refusal.
+// For users: `line_answer` and `LONGEST_ENTRY`.
 
 ghost use Prim.Native.Nat.{_≤_};
 ghost use lib.ListN.{length, take, drop};

@@ -1,5 +1,6 @@
 // A program that reads its input block by block and writes as it goes. What it does next is decided here and in the crates above, so that its
 // loop decides nothing: it writes the front of its output, reads into its block, and calls.
+// For programs: `goes_on`, `output`, `room`, `front`, `State` and `BLOCK_SIZE`. For the crates above: all else.
 
 ghost use mathlib.Core.Path.{_≡_};
 ghost use lib.ListN.{take};

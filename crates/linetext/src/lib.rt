@@ -1,5 +1,6 @@
 // A line of the listing: the numbers of a day or of a refusal in columns, written into a lent buffer. Each public call writes its text and
 // tells the offset after it, or says that it has no room and leaves the buffer as it was.
+// For the crates above.
 
 ghost use mathlib.Core.Path.{_≡_};
 ghost use mathlib.Core.List.{[], _∷_};

@@ -42,6 +42,7 @@ pub data LastLine (l : List ℕ) : ℕ → List ℕ → Type 0 where
 
 -- ---- a block, from an offset on: how far the listing is in it
 
+-- how far the block is read; the line buffer, and how many bytes of a line are held in it; the output, and how far it is written
 pub record BlockState : Type 0 where
   pub at : ℕ
   pub line : List ℕ

@@ -1,4 +1,5 @@
 // A run of the listing, turn by turn: what is to be written next, by what has happened since the last turn. A program around it decides nothing.
+// For programs.
 
 ghost use mathlib.Core.Path.{_≡_};
 ghost use Rattle.filter.specs.Promise.{eventOf};
