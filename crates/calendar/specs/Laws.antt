@@ -2,8 +2,8 @@
 -- Assumes nothing.
 use mathlib.Core.Path.{_≡_, refl, sym, _∙_, ap, ap₂, subst, subst₂}
 use mathlib.Core.Bool.{Bool, true, false, not}
-use mathlib.Core.Logic.{_⊎_, inl, inr, ⊎-elim}
-use Prim.Native.Nat.{ℕ, zero, suc, _+_, _-_, _*_, _/_, _<_, _≤_, _^_}
+use mathlib.Core.Logic.{inl, inr, ⊎-elim}
+use Prim.Native.Nat.{ℕ, zero, suc, _+_, _-_, _*_, _/_, _%_, _<_, _≤_, _^_}
 use native.Mathlib.Omega.{arith}
 use borrow.Author.Tests.{lt-ltb, le-ltb}
 use lib.Dec.{ltb}
@@ -12,18 +12,19 @@ use Rattle.whole.specs.Tests.{lt-or-ge}
 use Rattle.whole.specs.Biased.{unbias}
 use Rattle.days.specs.DayByDay as D
 use Rattle.days.specs.DayByDay.{AcceptedReformation, Label, label, Borne, OfYear, Place, Ordinal, DayOrdinal, Is32Bit, Style, JulianStyle, GregorianStyle, style, Month}
-use Rattle.days.specs.RisingLabels.{days-one, nth-within}
+use Rattle.days.specs.RisingLabels.{nth-within}
 use Rattle.days.specs.BiasedDays.{dayBias, day, year, BiasedYear}
 use Rattle.days.specs.ClosedYear.{yearLength, year-most}
 use Rattle.days.specs.RisingSpans.{Stretch}
+use Rattle.days.specs.ReckoningSteps.{month-most}
 use Rattle.days.specs.ClosedStarts.{Spot}
 use Rattle.days.specs.ClosedJulian as J
 use Rattle.days.specs.ClosedGregorian as G
 use Rattle.days.specs.ClosedNumbers.{daysBefore, few-before}
 use Rattle.days.specs.ReformationRules.{all-three}
-use Rattle.days.specs.ReformationTable.{accepts-only, fits-biased}
+use Rattle.days.specs.ReformationTable.{accepts-only, fits-biased, there-too}
 use Rattle.days.specs.AcceptedCalendars.{labels-proper, skipped-nowhere}
-use Rattle.days.specs.ClosedRuns.{Runs, reforming-runs, firstDay, first-cases, first-julian, yearFirst, monthFirst, julianMonth, gregorianMonth, year-plain, month-plain, year-stretch, ordinal-at, day-ordinal-at, on-old, on-new, in-gap, on-none}
+use Rattle.days.specs.ClosedRuns.{Runs, reforming-runs, top, firstDay, first-cases, first-julian, first-reform, yearFirst, monthFirst, julianMonth, gregorianMonth, year-plain, month-plain, year-stretch, ordinal-at, day-ordinal-at, on-old, on-new, in-gap, on-none}
 use Rattle.inner.specs.Natural.{biasedDay, biasedYear, Lowers, within, beyond}
 use Rattle.monthdays.specs.Promise.{MonthDayAt, OrdinalOf}
 use Rattle.inner.specs.Laws.{biased-day, julian-alone, gregorian-alone, spot-of-year}
@@ -42,21 +43,22 @@ use Rattle.calendar.specs.declared.Chosen.the-variants as Chosen′
 use Rattle.calendar.specs.declared.Dated.{Dated}
 use Rattle.calendar.specs.declared.Dated.the-variants as Dated′
 use Rattle.calendar.specs.declared.Switch.the-variants as Switch′
-use Rattle.calendar.specs.declared.Usual.{Usual}
-use Rattle.calendar.specs.declared.Usual.the-variants as Usual′
+use Rattle.calendar.specs.declared.record.Place as P
+use Rattle.calendar.specs.declared.record.Placed.the-variants as Placed′
 use Rattle.inner.specs.declared.Spot as S
 use Rattle.inner.specs.Spots.{At, spot, at-number, at-from, at-few}
 use Rattle.switches.specs.declared.Found.the-variants as Found′
-use Rattle.switches.specs.Spots.{YearSpan, ThereIn, Finds, finds-old, finds-new, finds-gap, finds-none}
-use Rattle.switches.specs.Laws.{starts-close, Wholly, wholly-old, wholly-new, wholly-none, wholly-days, ordinal-sum, ordinal-none, read-at}
+use Rattle.switches.specs.declared.Read.the-variants as Read′
+use Rattle.switches.specs.Spots.{YearSpan, ThereIn, Reads, reads-at, reads-none, NoneBelow, ReadsBelow, below-none, Finds, finds-old, finds-new, finds-gap, finds-none}
+use Rattle.switches.specs.Laws.{starts-close, Wholly, wholly-old, wholly-new, wholly-none, wholly-days, ordinal-sum, read-at, below-not, below-late, below-year}
 use Rattle.refusals.specs.declared.Refusal.{Refusal}
 use Rattle.ways.specs.declared.Neighbour.the-variants as Neighbour′
 use Rattle.ways.specs.Ways.{IsNeighbour, there, nowhere}
 use Rattle.calendar.specs.Calendars.{definitionOf, labels, Accepted, IsRecord, Genuine, sameStyle, styleIs}
 use Rattle.calendar.specs.Rows.{refuses, passes}
-use Rattle.calendar.specs.Promise.{refused, refusedReformation, Reforms, judged, RecordOf, record-of, Given, ByLabel, on-label, ByOrdinal, OffYear, on-ordinal, AtJdn, AtYmd, AtOrdinal, IsGenuine, Next, ConvertsTo}
+use Rattle.calendar.specs.Promise.{refusal, refused, refusedReformation, Reforms, judged, RecordOf, record-of, Given, on-label, ByOrdinal, OffYear, on-ordinal, AtJdn, AtYmd, AtOrdinal, IsGenuine, Next, ConvertsTo}
 use Rattle.calendar.specs.One.{whole, record-one}
-use Rattle.calendar.specs.Natural.{SwitchIs, switches-at, no-calendar, DayInYear, LabelledAt, old, new, OnSpot, OfALabel, plainRecord, Plain, SpotAt, UsualLabel, UsualOrdinal, OnUsualSpot, InTurning, fieldsOf}
+use Rattle.calendar.specs.Natural.{SwitchIs, switches-at, no-calendar, SomeSwitch, LabelledAt, old, new, OnSpot, OfALabel, plainRecord, Plain, SpotAt, IsPlace, plainPlace, recordAt, LabelAt, LaterLabel, PlacesOrdinal, ordinal-at-place, ordinal-off, LaterOrdinal, pair, TurnsLabel, turns-at, turns-gap, turns-none, TurnsOrdinal, turns-day, Turns, fieldsOf}
 
 -- ---- Where a calendar switches
 pub switch-accepted : {r : ℤ} {k : ℕ} → Judges r (Judgement′.Accepted k) → SwitchIs (Reforming r) (Switch′.At k)
@@ -186,14 +188,6 @@ labelled-new (new h a) g = a
 
 -- ---- The rows of a label
 module _ (c : Calendar) {r : ℕ} (runs : Runs (definitionOf c) r) {y m d : ℕ} {z : ℤ} (h : BiasedYear (biasedYear y)) (e : year (biasedYear y) ≡ z) where
-  pub found-spot : {s : S.Spot} → Finds r y m d (Found′.At s) → OnSpot r s
-  found-spot (finds-old g a) = old g a
-  found-spot (finds-new g a n) = new g a
-
-  found-year : {s : S.Spot} → Finds r y m d (Found′.At s) → year (biasedYear (s .year)) ≡ z
-  found-year (finds-old g a) = e
-  found-year (finds-new g a n) = e
-
   pub found-label : {s : S.Spot} → Finds r y m d (Found′.At s) → labels c (day (s .biased)) ≡ label z m d
   found-label (finds-old g a) = labelled-is c runs (old g a) ∙ ap (λ (z : ℤ). label z m d) e
   found-label (finds-new g a n) = labelled-is c runs (new g a) ∙ ap (λ (z : ℤ). label z m d) e
@@ -203,9 +197,6 @@ module _ (c : Calendar) {r : ℕ} (runs : Runs (definitionOf c) r) {y m d : ℕ}
   label-row refused {s = s} f b =
       let l : labels c (day (s .biased)) ≡ label z m d = found-label f in
       passes (λ n. n .0 (day (s .biased), l)) (passes (λ i. skipped-nowhere (runs .accepted) i (day (s .biased), l)) b)
-
-  pub found-row : {s : S.Spot} {a : Dated} → Finds r y m d (Found′.At s) → Given c (year (biasedYear (s .year))) (day (s .biased)) a → ByLabel c z m d a
-  found-row {s} {a} f g = label-row Dated′.Refused f (on-label (found-label f) (subst (λ (z : ℤ). Given c z (day (s .biased)) a) (found-year f) g))
 
   pub refused-row : {A : Type 0} (refused : Refusal → A) {Below : A → Type 0} {f : Refusal} → Finds r y m d (Found′.Refused f) → OfALabel c z m d refused Below (refused f)
   refused-row refused (finds-gap t u v) = let s = in-gap runs (biasedYear y) m d e h t u v in passes (λ n. n .1 s) (refuses s)
@@ -228,64 +219,6 @@ given-far c (beyond b) = refuses b
 pub given-none : {k : ℕ} {d : DayNumber} → d ≡ DayNumber′.Nothing → Lowers k d → ⊥
 given-none e (within w) = let z : _≡_ {A = ℕ} 0 1 = cc in omega arith
 given-none e (beyond b) = let z : _≡_ {A = ℕ} 0 1 = cc in omega arith
-
--- ---- The rows of an ordinal
-module _ (c : Calendar) {r : ℕ} (runs : Runs (definitionOf c) r) (y o : ℕ) {a b : ℕ} {z : ℤ} (h : BiasedYear (biasedYear y)) (e : year (biasedYear y) ≡ z) (s : YearSpan r (biasedYear y) a b) where
-  abbrev days-of : Stretch (labels c) (OfYear (year (biasedYear y))) dayBias (yearFirst r (biasedYear y)) (yearFirst r (biasedYear y + 1))
-  days-of = year-stretch runs (biasedYear y) h
-
-  off-by : ((o ≡ 0) ⊎ (b < a + o)) → ByOrdinal c z o (refused 6 (pos o))
-  off-by n = subst (λ (z : ℤ). ByOrdinal c z o (refused 6 (pos o))) e
-      (refuses (yearFirst r (biasedYear y + 1) - yearFirst r (biasedYear y), days-of .days, ⊎-elim inl (λ i. inr (omega (arith, s .first-is, s .past-is, days-of .ordered))) n))
-
-  pub off-low : o < 1 → ByOrdinal c z o (refused 6 (pos o))
-  off-low n = off-by (inl (omega arith))
-
-  pub off-high : b < a + o → ByOrdinal c z o (refused 6 (pos o))
-  off-high n = off-by (inr n)
-
-  module _ (u : 1 ≤ o) (v : a + o ≤ b) where
-    pub in-year-at : DayInYear c r y (a + o - 1)
-    in-year-at = record {
-      runs = runs;
-      year-biased = h;
-      of-year = days-of .inside (a + o - 1) (omega (arith, s .first-is)) (omega (arith, s .past-is));
-      room = omega (arith, s .past-room);
-    }
-
-    pub ordinal-row : {t : Dated} → Given c (year (biasedYear y)) (day (a + o - 1)) t → ByOrdinal c z o t
-    ordinal-row {t} q = subst (λ (z : ℤ). ByOrdinal c z o t) e (passes not-off (on-ordinal (in-year-at .of-year) place q))
-      where
-        place : Place (λ d. OfYear (year (biasedYear y)) (labels c d)) (day (a + o - 1)) o
-        place =
-            let w : a + o - 1 + 1 - yearFirst r (biasedYear y) ≡ o = omega (arith, s .first-is) in
-            subst (Place (λ d. OfYear (year (biasedYear y)) (labels c d)) (day (a + o - 1))) w (days-of .here (a + o - 1) (in-year-at .of-year) .2)
-
-        not-off : ¬ OffYear c (year (biasedYear y)) o
-        not-off (t, i, n) =
-            let w : t ≡ yearFirst r (biasedYear y + 1) - yearFirst r (biasedYear y) = days-one i (days-of .days) in
-            ⊎-elim (λ q. never-low q) (λ q. never-high t w q) n
-          where
-            never-low : o ≡ 0 → ⊥
-            never-low q = omega arith
-
-            never-high : (t : ℕ) → t ≡ yearFirst r (biasedYear y + 1) - yearFirst r (biasedYear y) → t < o → ⊥
-            never-high t w q = omega (arith, s .first-is, s .past-is)
-
--- the spot of a day of a year
-module _ (c : Calendar) {r y k : ℕ} (p : DayInYear c r y k) where
-  pub old-ordinal : k < r → Spot J.leapAt J.start k (biasedYear y) (k + 1 - J.start (biasedYear y))
-  old-ordinal n = spot-of-year julian-alone (p .year-biased) (subst (OfYear (year (biasedYear y))) (p .runs .below k n (p .room) .0) (p .of-year))
-
-  pub new-ordinal : r ≤ k → Spot G.leapAt G.start k (biasedYear y) (k + 1 - G.start (biasedYear y))
-  new-ordinal n = spot-of-year gregorian-alone (p .year-biased) (subst (OfYear (year (biasedYear y))) (p .runs .above k n (p .room) .0) (p .of-year))
-
--- what an ordinal in its own reckoning asks of the machine
-pub spot-fits : {leapAt : ℕ → Bool} {start : ℕ → ℕ} {k y o : ℕ} → Spot leapAt start k y o → (o < 2 ^ 32) × (start y ≤ k + 1)
-spot-fits {leapAt} {start} {k} {y} {o} p = (omega (arith, p .to, year-most (leapAt y)), room (start y) (p .adds))
-  where
-    room : (s : ℕ) → s + o ≡ k + 1 → s ≤ k + 1
-    room s e = omega arith
 
 -- a spot that was made of an ordinal is on its day
 pub spot-made : {leapAt : ℕ → Bool} {start : ℕ → ℕ} {k y o : ℕ} {b : Bool} {s : S.Spot} → BiasedYear (biasedYear y) → Spot leapAt start k (biasedYear y) o → b ≡ leapAt (biasedYear y) → SpotAt k y o b s
@@ -373,10 +306,6 @@ module _ {r : ℕ} (s : S.Spot) {a : ℕ} (l : OnSpot r s) (h : r ≤ s .biased)
         place-first r (julianMonth (biasedYear (s .year)) (s .month)) (gregorianMonth (biasedYear (s .year)) (s .month)) (s .biased) (s .day) (month-adds p) (day-in-month p) (month-close p) h,
         place-few r (julianMonth (biasedYear (s .year)) (s .month)) (gregorianMonth (biasedYear (s .year)) (s .month)) (s .biased) (s .day) (month-adds p) (day-in-month p) (month-close p) h,
       )
-
--- what is given of a spot is given of its day and year
-pub given-spot : (c : Calendar) {k y o : ℕ} {b : Bool} {s : S.Spot} {a : Dated} → SpotAt k y o b s → Given c (year (biasedYear (s .year))) (day (s .biased)) a → Given c (year (biasedYear y)) (day k) a
-given-spot c {a = a} p g = subst (λ (s : S.Spot). Given c (year (biasedYear (s .year))) (day (s .biased)) a) (p .is) g
 
 -- ---- A genuine record
 pub genuine-by : {d t : Date} → RecordOf (d .calendar) (d .jdn) (Dated′.Date t) → Accepted (d .calendar) → fieldsOf d ≡ fieldsOf t → Genuine d
@@ -502,65 +431,298 @@ module _ (y : ℕ) {r : ℕ} (h : BiasedYear (biasedYear y)) where
   whole-ordinal {o = o} (wholly-new f g) from to q = subst (λ (s : S.Spot). OnSpot r s × Plain r s) (sym (q .is))
       (in-new g (spot-made h (record { from = from; to = to; adds = one (G.start (biasedYear y)) o from }) refl q))
 
--- its record, or 7
-module _ (c : Calendar) {r : ℕ} (s : S.Spot) {z : ℤ} (runs : Runs (definitionOf c) r) (l : OnSpot r s) (p : Plain r s) where
-  pub usual-date : {n : ℤ} {d : Date} → Lowers (s .biased) (DayNumber′.Day n) → d ≡ plainRecord c s n → OnUsualSpot c z s (Usual′.Date d)
-  usual-date {n} w e = given-biased c w (subst (IsRecord c n) (sym e) (record-plain c runs s l (lowered-day w) p))
+-- ---- Two numbers as one
+pub month-few : {leapAt : ℕ → Bool} {start : ℕ → ℕ} {k y m d o : ℕ} → At leapAt start k y m d o → d < 32
+month-few {leapAt} {y = y} {m} a = omega (arith, a .there .3, month-most (leapAt y) m (a .there .0) (a .there .1))
 
--- the answer then, to a label and to an ordinal
-module _ (c : Calendar) {r : ℕ} (runs : Runs (definitionOf c) r) (s : S.Spot) {z : ℤ} (e : year (biasedYear (s .year)) ≡ z) (l : OnSpot r s) where
-  spot-label : labels c (day (s .biased)) ≡ label z (s .month) (s .day)
-  spot-label = labelled-is c runs l ∙ ap (λ (z : ℤ). label z (s .month) (s .day)) e
+pair-first : (i j : ℕ) → j < 4_294_967_296 → pair i j / 4_294_967_296 ≡ i
+pair-first i j h = omega arith
 
-  pub usual-ymd : (u : Usual) → OnUsualSpot c z s u → UsualLabel c z (s .month) (s .day) u
-  usual-ymd (Usual′.Date d) g = label-given (runs .accepted) g spot-label
-  usual-ymd (Usual′.Refused f) g = label-given (runs .accepted) g spot-label
-  usual-ymd (Usual′.Turning r) g = absurd g
+pair-second : (i j : ℕ) → j < 4_294_967_296 → pair i j % 4_294_967_296 ≡ j
+pair-second i j h = omega arith
 
-  module _ (p : Plain r s) where
-    spot-place : Place (λ d. OfYear z (labels c d)) (day (s .biased)) (s .ordinal)
-    spot-place = subst₂ (λ (y : ℤ) (o : ℕ). Place (λ d. OfYear y (labels c d)) (day (s .biased)) o) (ap (λ (l : Label). l .year) spot-label) (plain-ordinal c runs l p)
-        (ordinal-at runs (s .biased) (biasedYear (s .year)) (s .month) (s .day) (labelled-biased c runs l) (labelled-is c runs l))
+month-of : (m d : ℕ) → d < 32 → (m * 32 + d) / 32 ≡ m
+month-of m d h = omega arith
 
-    pub usual-ordinal : (u : Usual) → OnUsualSpot c z s u → UsualOrdinal c z (s .ordinal) u
-    usual-ordinal (Usual′.Date d) g = ordinal-given (runs .accepted) g (ap (λ (l : Label). l .year) spot-label) spot-place
-    usual-ordinal (Usual′.Refused f) g = ordinal-given (runs .accepted) g (ap (λ (l : Label). l .year) spot-label) spot-place
-    usual-ordinal (Usual′.Turning r) g = absurd g
+day-of : (m d : ℕ) → d < 32 → (m * 32 + d) % 32 ≡ d
+day-of m d h = omega arith
 
-pub ordinal-spot : (c : Calendar) {r : ℕ} (runs : Runs (definitionOf c) r) {k y o : ℕ} {b : Bool} (s : S.Spot) {z : ℤ} → SpotAt k y o b s → year (biasedYear y) ≡ z → OnSpot r s × Plain r s
-    → (u : Usual) → OnUsualSpot c z s u → UsualOrdinal c z o u
-ordinal-spot c runs s {z} q e (l, p) u g = subst (λ (o : ℕ). UsualOrdinal c z o u) (ap (λ (s : S.Spot). s .ordinal) (q .is))
-    (usual-ordinal c runs s (ap (λ (s : S.Spot). year (biasedYear (s .year))) (q .is) ∙ e) l p u g)
+-- ---- Where a day stands
+module _ (c : Calendar) {r y : ℕ} (runs : Runs (definitionOf c) r) {p : P.Place} {z : ℤ} (e : year (biasedYear y) ≡ z) (s : IsPlace r y p) where
+  pub place-some : 1 ≤ p .past
+  place-some = omega (arith, s .past-is)
 
--- the refusals of a year that is wholly in one reckoning
-module _ (c : Calendar) {r : ℕ} (runs : Runs (definitionOf c) r) (y : ℕ) {z : ℤ} (h : BiasedYear (biasedYear y)) (e : year (biasedYear y) ≡ z) where
-  pub whole-none : {t m d : ℕ} {b : Bool} → Month m → Wholly r (biasedYear y) t b → OrdinalOf b m d DayOrdinal′.Nothing → AtYmd c z m d (refused 4 (pos d))
-  whole-none {m = m} {d} v w n = let (g, i) = wholly-none y w (ordinal-none n) in passes (runs .accepted) (passes v (refuses (on-none runs (biasedYear y) m d e h g i)))
+  biased-past : s .biased ≡ p .past - 1
+  biased-past = omega (arith, s .past-is)
 
-  off-year : {o : ℕ} → ((o ≡ 0) ⊎ (yearFirst r (biasedYear y + 1) - yearFirst r (biasedYear y) < o)) → AtOrdinal c z o (refused 6 (pos o))
-  off-year {o} n = passes (runs .accepted) (subst (λ (z : ℤ). ByOrdinal c z o (refused 6 (pos o))) e
-      (refuses (yearFirst r (biasedYear y + 1) - yearFirst r (biasedYear y), year-stretch runs (biasedYear y) h .days, n)))
+  pub place-record : IsRecord c (day (p .past - 1)) (recordAt c z p)
+  place-record = record-is c runs (s .labelled) (ap day biased-past) e (s .ordinal-is) (s .day-ordinal-is)
 
-  pub none-before-one : {o : ℕ} → o < 1 → AtOrdinal c z o (refused 6 (pos o))
-  none-before-one n = off-year (inl (omega arith))
+  biased-label : labels c (day (s .biased)) ≡ label z (p .month) (p .day)
+  biased-label = labelled-is c runs (s .labelled) ∙ ap (λ (z : ℤ). label z (p .month) (p .day)) e
 
-  pub none-past-whole : {t o : ℕ} {b : Bool} → Wholly r (biasedYear y) t b → yearLength b < o → AtOrdinal c z o (refused 6 (pos o))
-  none-past-whole {o = o} w n = off-year (inr (subst (λ (k : ℕ). k < o) (sym (wholly-days (biasedYear y) w)) n))
+  place-label : labels c (day (p .past - 1)) ≡ label z (p .month) (p .day)
+  place-label = ap (λ (k : ℕ). labels c (day k)) (sym biased-past) ∙ biased-label
 
--- ---- The year of a switch
-pub turning-ordinal : (c : Calendar) {z : ℤ} (m : ℕ) {o : ℕ} {a : Dated} → m ≡ 0 → ByOrdinal c z o a → InTurning c z m o a
-turning-ordinal c {z} m {o} {a} e p = rw e p
+  pub place-ymd : {m d : ℕ} {a : Dated} → p .month ≡ m → p .day ≡ d → Given c z (day (p .past - 1)) a → AtYmd c z m d a
+  place-ymd {a = a} f g q = subst₂ (λ (m d : ℕ). AtYmd c z m d a) f g (label-given (runs .accepted) q place-label)
 
-pub turning-label : (c : Calendar) {z : ℤ} (m : ℕ) {d : ℕ} {a : Dated} → 1 ≤ m → ByLabel c z m d a → InTurning c z m d a
-turning-label c zero h p = absurd (nought h)
+  pub place-ordinal : {o : ℕ} {a : Dated} → p .ordinal ≡ o → Given c z (day (p .past - 1)) a → AtOrdinal c z o a
+  place-ordinal {a = a} f g = subst (λ (o : ℕ). AtOrdinal c z o a) f (ordinal-given (runs .accepted) g (ap (λ (l : Label). l .year) place-label) place)
+    where
+      there : Place (λ d. OfYear z (labels c d)) (day (s .biased)) (p .ordinal)
+      there = subst₂ (λ (y : ℤ) (o : ℕ). Place (λ d. OfYear y (labels c d)) (day (s .biased)) o) (ap (λ (l : Label). l .year) biased-label) (s .ordinal-is)
+          (ordinal-at runs (s .biased) (biasedYear y) (p .month) (p .day) (labelled-biased c runs (s .labelled)) (labelled-is c runs (s .labelled)))
+
+      place : Place (λ d. OfYear z (labels c d)) (day (p .past - 1)) (p .ordinal)
+      place = subst (λ (k : ℕ). Place (λ d. OfYear z (labels c d)) (day k) (p .ordinal)) biased-past there
+
+pub given-place : (c : Calendar) (p : P.Place) {z n : ℤ} → Lowers (p .past - 1) (DayNumber′.Day n) → IsRecord c (day (p .past - 1)) (recordAt c z p)
+    → Given c z (day (p .past - 1)) (Dated′.Date (record { calendar = c; year = z; ordinal = p .ordinal; month = p .month; day = p .day; «day_ordinal» = p .«day_ordinal»; jdn = n }))
+given-place c p {z} w i =
+    given-biased c w (subst (λ (n : ℤ). IsRecord c n (record { calendar = c; year = z; ordinal = p .ordinal; month = p .month; day = p .day; «day_ordinal» = p .«day_ordinal»; jdn = n })) (lowered-day w) i)
+
+-- a spot whose places are those of its own reckoning
+pub plain-stands : {r : ℕ} → SomeSwitch r → (s : S.Spot) → OnSpot r s → Plain r s → IsPlace r (s .year) (plainPlace s)
+plain-stands (c, runs) s l p = record { biased = s .biased; own = s .ordinal; past-is = refl; labelled = l; ordinal-is = plain-ordinal c runs l p; day-ordinal-is = plain-day-ordinal c runs l p }
+
+pub place-room : {r y : ℕ} {p : P.Place} → IsPlace r y p → p .past < top
+place-room q = omega (arith, q .past-is, labelled-room (q .labelled))
+
+pub plain-room : {r y : ℕ} (s : S.Spot) → IsPlace r y (plainPlace s) → s .biased < top
+plain-room s q = omega (arith, q .past-is, labelled-room (q .labelled))
+
+never-both : {r : ℕ} (k : ℕ) → r ≤ k → k < r → ⊥
+never-both k g h = omega arith
+
+-- ---- From a label
+none-below : {r y m d : ℕ} → ReadsBelow r y m d Read′.Nothing → NoneBelow r y m d
+none-below (below-none n) = n
+
+begun : {r t : ℕ} (y : ℕ) → t ≡ J.start (biasedYear y) → t < r → r ≤ J.start (biasedYear y) → G.start (biasedYear y) < r
+begun {r} y f g i = absurd (never-both (J.start (biasedYear y)) i (subst (λ (k : ℕ). k < r) f g))
+
+module _ {r m d t : ℕ} {b : Bool} (y : ℕ) (h : BiasedYear (biasedYear y)) where
+  -- a Julian day before the switch, and a day of a year that begins from the switch on
+  pub early-old : {s : S.Spot} → SomeSwitch r → b ≡ J.leapAt (biasedYear y) → t ≡ J.start (biasedYear y) → Reads b t y m d (Read′.At s) → s .biased < r → LabelAt r y m d (plainPlace s)
+  early-old w e f (reads-at {o} v q) g = (plain-stands w (spot (t + o - 1) y o m d) (old g (read-at J.leapAt J.start y m d h e f v q)) (λ i. absurd (never-both (t + o - 1) i g)), refl, refl)
+
+  pub early-new : {s : S.Spot} → SomeSwitch r → b ≡ G.leapAt (biasedYear y) → t ≡ G.start (biasedYear y) → Reads b t y m d (Read′.At s) → r ≤ t → LabelAt r y m d (plainPlace s)
+  early-new w e f (reads-at {o} v q) g =
+      let (l, p) = in-new (subst (λ (k : ℕ). r ≤ k) f g) (read-at G.leapAt G.start y m d h e f v q) in
+      (plain-stands w (spot (t + o - 1) y o m d) l p, refl, refl)
+
+  -- a label that a year has not which is wholly in one reckoning
+  pub old-none : b ≡ J.leapAt (biasedYear y) → t ≡ J.start (biasedYear y) → Reads b t y m d Read′.Nothing → t + 366 < r → Finds r y m d (Found′.Refused (refusal 4 (pos d)))
+  old-none e f (reads-none n) g = let (i, j) = wholly-none y (wholly-old (subst (λ (k : ℕ). k + 366 < r) f g)) (subst (λ (b : Bool). ¬ ThereIn b m d) e n) in finds-none i j
+
+  pub new-none : b ≡ G.leapAt (biasedYear y) → t ≡ G.start (biasedYear y) → Reads b t y m d Read′.Nothing → {u : ℕ} → u ≡ J.start (biasedYear y) → r ≤ u → r ≤ t → Finds r y m d (Found′.Refused (refusal 4 (pos d)))
+  new-none e f (reads-none n) k i g =
+      let (i, j) = wholly-none y (wholly-new (subst (λ (k : ℕ). r ≤ k) k i) (subst (λ (k : ℕ). r ≤ k) f g)) (subst (λ (b : Bool). ¬ ThereIn b m d) e n) in
+      finds-none i j
+
+  -- one that is looked for from the switch on
+  pub later-none : b ≡ J.leapAt (biasedYear y) → t ≡ J.start (biasedYear y) → t < r → Reads b t y m d Read′.Nothing → LaterLabel r y m d
+  later-none e f g n = (none-below (below-not h e f n), begun y f g)
+
+  pub later-late : {s : S.Spot} → b ≡ J.leapAt (biasedYear y) → t ≡ J.start (biasedYear y) → t < r → Reads b t y m d (Read′.At s) → r ≤ s .biased → LaterLabel r y m d
+  later-late e f g n i = (none-below (below-late h e f n i), begun y f g)
+
+pub later-new : {r m d t u : ℕ} (y : ℕ) → t ≡ J.start (biasedYear y) → r ≤ t → u ≡ G.start (biasedYear y) → u < r → LaterLabel r y m d
+later-new {r} y f g e i = (none-below (below-year f g), λ j. subst (λ (k : ℕ). k < r) e i)
+
+-- what is found from the switch on: 4, 5, or the places
+module _ {r m d : ℕ} (y : ℕ) (l : LaterLabel r y m d) where
+  pub later-refused : {t : ℕ} → TurnsLabel r y m d t → t < 4_294_967_296 → Finds r y m d (Found′.Refused (refusal t (pos d)))
+  later-refused (turns-at {i} {j} g a u v e f) h = absurd (large i j u h)
+    where
+      large : (i j : ℕ) → 1 ≤ i → pair i j < 4_294_967_296 → ⊥
+      large i j u h = omega arith
+  later-refused (turns-gap t u) h = finds-gap t (l .0 (there-too (biasedYear y) m d t)) u
+  later-refused (turns-none n) h = finds-none n (l .0)
+
+  pub later-at : {t w : ℕ} → TurnsLabel r y m d t → 4_294_967_296 ≤ t → w ≡ yearFirst r (biasedYear y)
+      → LabelAt r y m d (record { past = w + t / 4_294_967_296; ordinal = t / 4_294_967_296; month = m; day = d; «day_ordinal» = t % 4_294_967_296 })
+  later-at {w = w} (turns-at {k} {o} {i} {j} g a u v e f) h q = (
+    record {
+      biased = k;
+      own = o;
+      past-is = ap (λ (n : ℕ). w + n) (pair-first i j v) ∙ sum (yearFirst r (biasedYear y)) q e u;
+      labelled = new g a;
+      ordinal-is = e ∙ sym (pair-first i j v);
+      day-ordinal-is = f ∙ sym (pair-second i j v);
+    },
+    refl,
+    refl,
+  )
+    where
+      sum : (x : ℕ) → w ≡ x → k + 1 - x ≡ i → 1 ≤ i → w + i ≡ k + 1
+      sum x q e u = omega arith
+  later-at (turns-gap t u) h q = absurd (small h)
+    where
+      small : 4_294_967_296 ≤ 5 → ⊥
+      small h = omega arith
+  later-at (turns-none n) h q = absurd (small h)
+    where
+      small : 4_294_967_296 ≤ 4 → ⊥
+      small h = omega arith
+
+  -- the first day of its year
+  pub later-first : {t w : ℕ} → t ≡ J.start (biasedYear y) → (t < r → w ≡ t) × (r ≤ t → w ≡ r) → w ≡ yearFirst r (biasedYear y)
+  later-first {t} e (f, g) = ⊎-elim
+      (λ h. f h ∙ e ∙ sym (first-julian r (J.start (biasedYear y)) (G.start (biasedYear y)) (subst (λ (k : ℕ). k < r) e h)))
+      (λ h. let i = subst (λ (k : ℕ). r ≤ k) e h in g h ∙ sym (first-reform r (J.start (biasedYear y)) (G.start (biasedYear y)) i (l .1 i)))
+      (lt-or-ge t r)
+
+-- ---- From a place in a year
+module _ {r : ℕ} (y : ℕ) {o : ℕ} (h : BiasedYear (biasedYear y)) where
+  pub off-low : o < 1 → PlacesOrdinal r y o (Placed′.Refused (refusal 6 (pos o)))
+  off-low n = ordinal-off (inl (omega arith))
+
+  pub off-whole : {t : ℕ} {b : Bool} → Wholly r (biasedYear y) t b → yearLength b < o → PlacesOrdinal r y o (Placed′.Refused (refusal 6 (pos o)))
+  off-whole w n = ordinal-off (inr (subst (λ (k : ℕ). k < o) (sym (wholly-days (biasedYear y) w)) n))
+
+  pub off-span : {a b : ℕ} → YearSpan r (biasedYear y) a b → 1 ≤ o → b < a + o → PlacesOrdinal r y o (Placed′.Refused (refusal 6 (pos o)))
+  off-span s u n = ordinal-off (inr (omega (arith, s .first-is, s .past-is)))
+
+  -- of a spot that was made of it
+  spot-place : {k : ℕ} {b : Bool} (s : S.Spot) → SomeSwitch r → SpotAt k y o b s → OnSpot r s × Plain r s → IsPlace r y (plainPlace s) × (s .ordinal ≡ o)
+  spot-place s w q (l, p) = (subst (λ (x : ℕ). IsPlace r x (plainPlace s)) (ap (λ (s : S.Spot). s .year) (q .is)) (plain-stands w s l p), ap (λ (s : S.Spot). s .ordinal) (q .is))
+
+  pub whole-place : {t : ℕ} {b : Bool} (s : S.Spot) → SomeSwitch r → Wholly r (biasedYear y) t b → 1 ≤ o → o ≤ yearLength b → SpotAt (t + o - 1) y o b s → IsPlace r y (plainPlace s) × (s .ordinal ≡ o)
+  whole-place s w v from to q = spot-place s w q (whole-ordinal y h v from to q)
+
+  -- in the year of a switch
+  module _ {a b : ℕ} (g : SomeSwitch r) (s : YearSpan r (biasedYear y) a b) (u : 1 ≤ o) (v : a + o ≤ b) where
+    abbrev days-of : Stretch (labels (g .0)) (OfYear (year (biasedYear y))) dayBias (yearFirst r (biasedYear y)) (yearFirst r (biasedYear y + 1))
+    days-of = year-stretch (g .1) (biasedYear y) h
+
+    of-year : OfYear (year (biasedYear y)) (labels (g .0) (day (a + o - 1)))
+    of-year = days-of .inside (a + o - 1) (omega (arith, s .first-is)) (omega (arith, s .past-is))
+
+    room : a + o - 1 < top
+    room = omega (arith, s .past-room)
+
+    pub span-old : {b : Bool} (p : S.Spot) → a + o ≤ r → b ≡ J.leapAt (biasedYear y) → SpotAt (a + o - 1) y o b p → IsPlace r y (plainPlace p) × (p .ordinal ≡ o)
+    span-old p n e q = spot-place p g q (spot-old h below spot-is e q, λ i. absurd (never-both (a + o - 1) (subst (λ (p : S.Spot). r ≤ p .biased) (q .is) i) below))
+      where
+        below : a + o - 1 < r
+        below = omega arith
+
+        own : Spot J.leapAt J.start (a + o - 1) (biasedYear y) (a + o - 1 + 1 - J.start (biasedYear y))
+        own = spot-of-year julian-alone h (subst (OfYear (year (biasedYear y))) (g .1 .below (a + o - 1) below room .0) of-year)
+
+        begins : a ≡ J.start (biasedYear y)
+        begins = s .first-is ∙ first-julian r (J.start (biasedYear y)) (G.start (biasedYear y)) (first (J.start (biasedYear y)) (own .from) (own .adds))
+          where
+            first : (x : ℕ) → 1 ≤ a + o - 1 + 1 - x → x + (a + o - 1 + 1 - x) ≡ a + o - 1 + 1 → x < r
+            first x i j = omega arith
+
+        spot-is : Spot J.leapAt J.start (a + o - 1) (biasedYear y) o
+        spot-is = subst (Spot J.leapAt J.start (a + o - 1) (biasedYear y)) (rest (J.start (biasedYear y)) begins) own
+          where
+            rest : (x : ℕ) → a ≡ x → a + o - 1 + 1 - x ≡ o
+            rest x e = omega arith
+
+    pub span-later : r < a + o → LaterOrdinal r y o
+    span-later n = record {
+      some = u;
+      room = omega (arith, s .first-is, s .past-room);
+      from = omega (arith, s .first-is);
+      spot-is = subst (λ (x : ℕ). Spot G.leapAt G.start (x + o - 1) (biasedYear y) (x + o - 1 + 1 - G.start (biasedYear y))) (s .first-is)
+          (spot-of-year gregorian-alone h (subst (OfYear (year (biasedYear y))) (g .1 .above (a + o - 1) (omega arith) room .0) of-year));
+    }
+
+    pub turned-place : {t : ℕ} → r < a + o → TurnsOrdinal r y o t
+        → IsPlace r y (record { past = a + o; ordinal = o; month = t / 4_294_967_296 / 32; day = t / 4_294_967_296 % 32; «day_ordinal» = t % 4_294_967_296 })
+    turned-place n (turns-day {k} {g = x} {m} {d} {j} e i f w z) = rw (pair-first (m * 32 + d) j w, pair-second (m * 32 + d) j w, month-of m d f, day-of m d f) (record {
+      biased = k;
+      own = x;
+      past-is = ap (λ (n : ℕ). n + o) (s .first-is) ∙ sym e;
+      labelled = new (omega (arith, s .first-is)) i;
+      ordinal-is = omega arith;
+      day-ordinal-is = z;
+    })
+
+pub ordinal-placed : {r y o : ℕ} {p : P.Place} → PlacesOrdinal r y o (Placed′.At p) → IsPlace r y p × (p .ordinal ≡ o)
+ordinal-placed (ordinal-at-place i e) = (i, e)
+
+pub off-row : (c : Calendar) {r : ℕ} (runs : Runs (definitionOf c) r) (y : ℕ) {o : ℕ} {z : ℤ} {f : Refusal} → BiasedYear (biasedYear y) → year (biasedYear y) ≡ z → PlacesOrdinal r y o (Placed′.Refused f) → AtOrdinal c z o (Dated′.Refused f)
+off-row c {r} runs y {o} h e (ordinal-off n) = passes (runs .accepted) (subst (λ (z : ℤ). ByOrdinal c z o (refused 6 (pos o))) e
+    (refuses (yearFirst r (biasedYear y + 1) - yearFirst r (biasedYear y), year-stretch runs (biasedYear y) h .days, n)))
+
+-- ---- From the switch on, in its year
+module _ {r : ℕ} (y : ℕ) {o w g : ℕ} (h : BiasedYear (biasedYear y)) (l : LaterOrdinal r y o) (e : w ≡ yearFirst r (biasedYear y)) (f : g ≡ G.start (biasedYear y)) where
+  later-own : Spot G.leapAt G.start (w + o - 1) (biasedYear y) (w + o - g)
+  later-own = subst₂ (λ (k x : ℕ). Spot G.leapAt G.start k (biasedYear y) x) (ap (λ (x : ℕ). x + o - 1) (sym e)) (rest (yearFirst r (biasedYear y)) (G.start (biasedYear y)) e f (l .some)) (l .spot-is)
+    where
+      rest : (x s : ℕ) → w ≡ x → g ≡ s → 1 ≤ o → x + o - 1 + 1 - s ≡ w + o - g
+      rest x s e f u = omega arith
+
+  pub later-room : (w + o < top) × (g ≤ w + o) × (w + o - g < 2 ^ 32) × (1 ≤ w + o - g)
+  later-room = (omega (arith, l .room, e), part (later-own .from), omega (arith, later-own .to, year-most (G.leapAt (biasedYear y))), later-own .from)
+    where
+      part : 1 ≤ w + o - g → g ≤ w + o
+      part u = omega arith
+
+  pub later-spot : {b : Bool} (s : S.Spot) → b ≡ G.leapAt (biasedYear y) → SpotAt (w + o - 1) y (w + o - g) b s → OnSpot r s × (r ≤ s .biased)
+  later-spot s i q =
+      let n : r ≤ w + o - 1 = omega (arith, l .from, e) in
+      (spot-new h n later-own i q, subst (λ (s : S.Spot). r ≤ s .biased) (sym (q .is)) n)
+
+  pub turned-day : {b : Bool} (s : S.Spot) {n : ℕ} → b ≡ G.leapAt (biasedYear y) → SpotAt (w + o - 1) y (w + o - g) b s → n < 4_294_967_296
+      → s .biased + 1 - monthFirst r (biasedYear (s .year)) (s .month) ≡ n → TurnsOrdinal r y o (pair (s .month * 32 + s .day) n)
+  turned-day s {n} i q u v =
+      let (a, m) = later-spot s i q in
+      let x : s .year ≡ y = ap (λ (s : S.Spot). s .year) (q .is) in
+      let k : s .biased ≡ w + o - 1 = ap (λ (s : S.Spot). s .biased) (q .is) in
+      subst (λ (y : ℕ). TurnsOrdinal r y o (pair (s .month * 32 + s .day) n)) x
+      (turns-day (sum k (yearFirst r (biasedYear (s .year))) (e ∙ ap (λ (y : ℕ). yearFirst r (biasedYear y)) (sym x)) (l .some)) (labelled-new a m) (month-few (labelled-new a m)) u v)
+    where
+      sum : s .biased ≡ w + o - 1 → (z : ℕ) → w ≡ z → 1 ≤ o → s .biased + 1 ≡ z + o
+      sum k z e u = omega arith
+
+pub turning-ordinal : {r y o t : ℕ} (m : ℕ) → m ≡ 0 → TurnsOrdinal r y o t → Turns r y m o t
+turning-ordinal m e p = rw e p
+
+pub turning-label : {r y d t : ℕ} (m : ℕ) → 1 ≤ m → TurnsLabel r y m d t → Turns r y m d t
+turning-label zero h p = absurd (nought h)
   where
     nought : 1 ≤ zero → ⊥
     nought h = omega arith
-turning-label c (suc m) h p = p
+turning-label (suc m) h p = p
 
-pub label-turning : (c : Calendar) {z : ℤ} (m : ℕ) {d : ℕ} {a : Dated} → 1 ≤ m → InTurning c z m d a → ByLabel c z m d a
-label-turning c zero h p = absurd (nought h)
+pub label-turning : {r y d t : ℕ} (m : ℕ) → 1 ≤ m → Turns r y m d t → TurnsLabel r y m d t
+label-turning zero h p = absurd (nought h)
   where
     nought : 1 ≤ zero → ⊥
     nought h = omega arith
-label-turning c (suc m) h p = p
+label-turning (suc m) h p = p
+
+-- a label in the Gregorian reckoning
+module _ {r y m d t : ℕ} {b : Bool} (h : BiasedYear (biasedYear y)) (e : b ≡ G.leapAt (biasedYear y)) (f : t ≡ G.start (biasedYear y)) where
+  pub reads-new : {s : S.Spot} → Reads b t y m d (Read′.At s) → r ≤ s .biased → OnSpot r s
+  reads-new (reads-at v q) g = new g (read-at G.leapAt G.start y m d h e f v q)
+
+  pub reads-room : {s : S.Spot} {j w : ℕ} → Reads b t y m d (Read′.At s) → r ≤ s .biased → j ≡ J.start (biasedYear y) → w ≡ firstDay r j t → (w ≤ s .biased) × (s .biased + 1 - w < 4_294_967_296)
+  reads-room {s} {j} {w} (reads-at {o} v q) g i k =
+      let a = read-at G.leapAt G.start y m d h e f v q in
+      first-cases r j t (λ u z. omega (arith, k, z, i, f, a .adds, at-few a, at-from a, year-close a)) (λ u x z. omega (arith, k, z, i, f, a .adds, at-few a, at-from a)) (λ u x z. omega (arith, k, z, i, f, a .adds, at-few a, at-from a))
+
+  pub turned-none : Reads b t y m d Read′.Nothing → TurnsLabel r y m d 4
+  turned-none (reads-none n) = turns-none (λ v. n (subst (λ (b : Bool). ThereIn b m d) (sym e) v))
+
+  pub turned-gap : {s : S.Spot} → Reads b t y m d (Read′.At s) → s .biased < r → TurnsLabel r y m d 5
+  turned-gap (reads-at v q) g = let a = read-at G.leapAt G.start y m d h e f v q in turns-gap (a .there) (subst (λ (n : ℕ). n < r) (sym (at-number a)) g)
+
+  pub turned-at : {s : S.Spot} {j w n : ℕ} → Reads b t y m d (Read′.At s) → r ≤ s .biased → j ≡ J.start (biasedYear y) → w ≡ firstDay r j t → n < 4_294_967_296
+      → s .biased + 1 - monthFirst r (biasedYear (s .year)) (s .month) ≡ n → TurnsLabel r y m d (pair (s .biased + 1 - w) n)
+  turned-at {w = w} (reads-at {o} v q) g i k u z = turns-at {i = t + o - 1 + 1 - w} g (read-at G.leapAt G.start y m d h e f v q) (omega (arith, reads-room (reads-at v q) g i k)) u (ap (λ (x : ℕ). t + o - 1 + 1 - x) (sym (k ∙ ap₂ (firstDay r) i f))) z
+
+-- the month of a Gregorian day
+pub month-room : {r : ℕ} (s : S.Spot) {a j : ℕ} → OnSpot r s → r ≤ s .biased → j ≡ julianMonth (biasedYear (s .year)) (s .month) → a ≡ firstDay r j (s .biased + 1 - s .day)
+    → (a ≤ s .biased + 1) × (s .biased + 1 - a < 2 ^ 32) × (s .biased + 1 - monthFirst r (biasedYear (s .year)) (s .month) ≡ s .biased + 1 - a)
+month-room {r} s {a} {j} l h e f =
+    let g : a ≡ firstDay r (julianMonth (biasedYear (s .year)) (s .month)) (s .biased + 1 - s .day) = f ∙ ap (λ (j : ℕ). firstDay r j (s .biased + 1 - s .day)) e in
+    let (x, y) = reform-month-room s l h g in
+    (x, y, ap (λ (n : ℕ). s .biased + 1 - n) (sym (g ∙ ap (firstDay r (julianMonth (biasedYear (s .year)) (s .month))) (sym (month-begins (labelled-new l h))))))

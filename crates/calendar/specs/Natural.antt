@@ -1,23 +1,27 @@
 -- What the private functions say, of days and years that are biased as naturals.
 use mathlib.Core.Path.{_≡_}
 use mathlib.Core.Bool.{Bool}
+use mathlib.Core.Logic.{_⊎_}
 use lib.IntN.{ℤ, pos}
-use Prim.Native.Nat.{ℕ, zero, suc, _+_, _-_, _<_, _≤_}
-use Rattle.days.specs.DayByDay.{label, OfYear, Month, JulianStyle, style}
-use Rattle.days.specs.BiasedDays.{day, year, BiasedYear}
+use Prim.Native.Nat.{ℕ, zero, suc, _+_, _-_, _*_, _<_, _≤_}
+use Rattle.days.specs.DayByDay.{label, JulianStyle, style}
+use Rattle.days.specs.BiasedDays.{day, year}
 use Rattle.days.specs.ClosedJulian as J
 use Rattle.days.specs.ClosedGregorian as G
-use Rattle.days.specs.ClosedRuns.{Runs, top}
+use Rattle.days.specs.ClosedNumbers.{There, number}
+use Rattle.days.specs.ClosedStarts as Starts
+use Rattle.days.specs.ClosedRuns.{Runs, top, yearFirst, monthFirst}
 use Rattle.inner.specs.Natural.{biasedYear}
 use Rattle.monthdays.specs.Promise.{MonthDayAt}
 use Rattle.fields.specs.declared.Fields.{Fields}
 use Rattle.refusals.specs.declared.Refusal.{Refusal}
 use Rattle.calendar.specs.declared.Calendar.{Calendar}
 use Rattle.calendar.specs.declared.Date.{Date}
-use Rattle.calendar.specs.declared.Dated.{Dated}
-use Rattle.calendar.specs.declared.Dated.the-variants as Dated′
-use Rattle.calendar.specs.declared.Usual.{Usual}
-use Rattle.calendar.specs.declared.Usual.the-variants as Usual′
+use Rattle.calendar.specs.declared.record.Place.{Place}
+use Rattle.calendar.specs.declared.record.Placed.{Placed}
+use Rattle.calendar.specs.declared.record.Placed.the-variants as Placed′
+use Rattle.calendar.specs.declared.record.Early.{Early}
+use Rattle.calendar.specs.declared.record.Early.the-variants as Early′
 use Rattle.calendar.specs.declared.Switch.{Switch}
 use Rattle.calendar.specs.declared.Switch.the-variants as Switch′
 use Rattle.inner.specs.declared.Spot.{Spot}
@@ -26,19 +30,18 @@ use Rattle.calendar.specs.declared.ReformDate.{ReformDate}
 use Rattle.calendar.specs.declared.ReformDate.the-variants as ReformDate′
 use Rattle.calendar.specs.Calendars.{definitionOf, labels, Accepted, Skipped, sameStyle}
 use Rattle.calendar.specs.Rows.{Unless, If}
-use Rattle.calendar.specs.Promise.{refusal, made-up, Given, ByLabel, AtYmd, ByOrdinal, AtOrdinal, Missing, ReformRecord}
+use Rattle.switches.specs.declared.Found.the-variants as Found′
+use Rattle.switches.specs.Spots.{NoneBelow, Finds}
+use Rattle.calendar.specs.Promise.{refusal, made-up, Missing, ReformRecord}
 
 -- the calendar is Julian below the biased day r and Gregorian from it on; or it is made up
 pub data SwitchIs (c : Calendar) : Switch → Type 0 where
   switches-at : {r : ℕ} → Runs (definitionOf c) r → SwitchIs c (Switch′.At r)
   no-calendar : ¬ Accepted c → SwitchIs c Switch′.MadeUp
 
--- a biased day of a raised year of the calendar
-pub record DayInYear (c : Calendar) (r y k : ℕ) : Type 0 where
-  pub runs : Runs (definitionOf c) r
-  pub year-biased : BiasedYear (biasedYear y)
-  pub of-year : OfYear (year (biasedYear y)) (labels c (day k))
-  pub room : k < top
+-- some calendar switches on the biased day r
+abbrev pub SomeSwitch : ℕ → Type 0
+SomeSwitch r = (c : Calendar) × Runs (definitionOf c) r
 
 -- day k is the day d of the month m of the year y, and the o-th of that year, in the reckoning that labels it
 pub data LabelledAt (r k y m d o : ℕ) : Type 0 where
@@ -65,28 +68,80 @@ pub record SpotAt (k y o : ℕ) (leap : Bool) (s : Spot) : Type 0 where
   pub is : s ≡ spot k y o (s .month) (s .day)
   pub month-day : MonthDayAt leap o (s .month) (s .day)
 
--- ---- Usual dates
+-- ---- Where a day stands
 
--- the answer is as P says; or the year is one of a switch, and Q holds of the day on which the calendar switches
-abbrev pub Usually : (Dated → Type 0) → (ℕ → Type 0) → Usual → Type 0
-Usually P Q (Usual′.Date d) = P (Dated′.Date d)
-Usually P Q (Usual′.Refused f) = P (Dated′.Refused f)
-Usually P Q (Usual′.Turning r) = Q r
+-- a day of the raised year y: its label, and its places in its year and its month
+pub record IsPlace (r y : ℕ) (p : Place) : Type 0 where
+  pub biased : ℕ
+  pub own : ℕ
+  pub past-is : p .past ≡ biased + 1
+  pub labelled : LabelledAt r biased (biasedYear y) (p .month) (p .day) own
+  pub ordinal-is : biased + 1 - yearFirst r (biasedYear y) ≡ p .ordinal
+  pub day-ordinal-is : biased + 1 - monthFirst r (biasedYear y) (p .month) ≡ p .«day_ordinal»
 
-abbrev pub UsualLabel : Calendar → ℤ → ℕ → ℕ → Usual → Type 0
-UsualLabel c y m d = Usually (AtYmd c y m d) (λ r. Runs (definitionOf c) r × Month m)
+-- that of a spot whose places are those of its own reckoning
+abbrev pub plainPlace : Spot → Place
+plainPlace s = record { past = s .biased + 1; ordinal = s .ordinal; month = s .month; day = s .day; «day_ordinal» = s .day }
 
-abbrev pub UsualOrdinal : Calendar → ℤ → ℕ → Usual → Type 0
-UsualOrdinal c y o = Usually (AtOrdinal c y o) (Runs (definitionOf c))
+-- its record
+abbrev pub recordAt : Calendar → ℤ → Place → Date
+recordAt c z p = record { calendar = c; year = z; ordinal = p .ordinal; month = p .month; day = p .day; «day_ordinal» = p .«day_ordinal»; jdn = day (p .past - 1) }
 
--- a spot in a year that is wholly in one reckoning
-abbrev pub OnUsualSpot : Calendar → ℤ → Spot → Usual → Type 0
-OnUsualSpot c y s = Usually (Given c y (day (s .biased))) (λ r. ⊥)
+-- ---- From a label
 
--- in the year of a switch: a day of a month, or with month 0 a day of the whole year
-abbrev pub InTurning : Calendar → ℤ → ℕ → ℕ → Dated → Type 0
-InTurning c y zero o = ByOrdinal c y o
-InTurning c y (suc m) d = ByLabel c y (suc m) d
+abbrev pub LabelAt : ℕ → ℕ → ℕ → ℕ → Place → Type 0
+LabelAt r y m d p = IsPlace r y p × (p .month ≡ m) × (p .day ≡ d)
+
+abbrev pub PlacesLabel : ℕ → ℕ → ℕ → ℕ → Placed → Type 0
+PlacesLabel r y m d (Placed′.At p) = LabelAt r y m d p
+PlacesLabel r y m d (Placed′.Refused f) = Finds r y m d (Found′.Refused f)
+
+-- no Julian day before the switch bears it, and its year does not begin from the switch on
+abbrev pub LaterLabel : ℕ → ℕ → ℕ → ℕ → Type 0
+LaterLabel r y m d = NoneBelow r y m d × (r ≤ J.start (biasedYear y) → G.start (biasedYear y) < r)
+
+abbrev pub PlacesEarly : ℕ → ℕ → ℕ → ℕ → Early → Type 0
+PlacesEarly r y m d (Early′.At p) = LabelAt r y m d p
+PlacesEarly r y m d (Early′.Refused f) = Finds r y m d (Found′.Refused f)
+PlacesEarly r y m d Early′.Later = LaterLabel r y m d
+
+-- ---- From a place in a year
+
+-- it is 0, or above the number of the days of the year
+abbrev pub OffSpan : ℕ → ℕ → ℕ → Type 0
+OffSpan r y o = (o ≡ 0) ⊎ (yearFirst r (biasedYear y + 1) - yearFirst r (biasedYear y) < o)
+
+pub data PlacesOrdinal (r y o : ℕ) : Placed → Type 0 where
+  ordinal-at-place : {p : Place} → IsPlace r y p → p .ordinal ≡ o → PlacesOrdinal r y o (Placed′.At p)
+  ordinal-off : OffSpan r y o → PlacesOrdinal r y o (Placed′.Refused (refusal 6 (pos o)))
+
+-- the o-th day of the year is a Gregorian day from the switch on
+pub record LaterOrdinal (r y o : ℕ) : Type 0 where
+  pub some : 1 ≤ o
+  pub room : yearFirst r (biasedYear y) + o < top
+  pub from : r ≤ yearFirst r (biasedYear y) + o - 1
+  pub spot-is : Starts.Spot G.leapAt G.start (yearFirst r (biasedYear y) + o - 1) (biasedYear y) (yearFirst r (biasedYear y) + o - 1 + 1 - G.start (biasedYear y))
+
+-- ---- From the switch on, in its year: two numbers below 2^32 as one
+
+abbrev pub pair : ℕ → ℕ → ℕ
+pair a b = a * 4_294_967_296 + b
+
+-- the places of a label in its year and its month; 5 where it is skipped, and 4 where it is nowhere
+pub data TurnsLabel (r y m d : ℕ) : ℕ → Type 0 where
+  turns-at : {k o i j : ℕ} → r ≤ k → At G.leapAt G.start k (biasedYear y) m d o → 1 ≤ i → j < 4_294_967_296
+      → k + 1 - yearFirst r (biasedYear y) ≡ i → k + 1 - monthFirst r (biasedYear y) m ≡ j → TurnsLabel r y m d (pair i j)
+  turns-gap : There G.leapAt (biasedYear y) m d → number G.leapAt G.start (biasedYear y) m d < r → TurnsLabel r y m d 5
+  turns-none : ¬ There G.leapAt (biasedYear y) m d → TurnsLabel r y m d 4
+
+-- the month and the day of a place in the year, and its place in the month
+pub data TurnsOrdinal (r y o : ℕ) : ℕ → Type 0 where
+  turns-day : {k g m d j : ℕ} → k + 1 ≡ yearFirst r (biasedYear y) + o → At G.leapAt G.start k (biasedYear y) m d g → d < 32 → j < 4_294_967_296
+      → k + 1 - monthFirst r (biasedYear y) m ≡ j → TurnsOrdinal r y o (pair (m * 32 + d) j)
+
+abbrev pub Turns : ℕ → ℕ → ℕ → ℕ → ℕ → Type 0
+Turns r y zero o = TurnsOrdinal r y o
+Turns r y (suc m) d = TurnsLabel r y (suc m) d
 
 -- ---- Of a calendar and of a date
 

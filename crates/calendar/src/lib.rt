@@ -109,13 +109,6 @@ pub fn switch_of(calendar: Calendar) -> Switch
     }
 }
 
-// What is found in line: the answer in a year that is wholly in one reckoning, or where the calendar switches if the year is not.
-enum Usual {
-    Date(Date),
-    Refused(Refusal),
-    Turning(u64),
-}
-
 // ---- Refusals
 
 fn made_up() -> Dated
@@ -178,10 +171,9 @@ impl Calendar {
         ensures { λ d. ⌜ AtYmd self year month day d ⌝ }
     {
         let calendar = self;
-        match record::usual_label(calendar, year, month, day) {
-            Usual::Date(date) => Dated::Date(date),
-            Usual::Refused(refusal) => Dated::Refused(refusal),
-            Usual::Turning(switch) => record::turning(calendar, switch, year, month, day),
+        match switch_of(calendar) {
+            Switch::MadeUp => made_up(),
+            Switch::At(switch) => record::on_label(calendar, switch, year, month, day),
         }
     }
 
@@ -190,10 +182,9 @@ impl Calendar {
         ensures { λ d. ⌜ AtOrdinal self year ordinal d ⌝ }
     {
         let calendar = self;
-        match record::usual_ordinal(calendar, year, ordinal) {
-            Usual::Date(date) => Dated::Date(date),
-            Usual::Refused(refusal) => Dated::Refused(refusal),
-            Usual::Turning(switch) => record::turning(calendar, switch, year, 0, ordinal),
+        match switch_of(calendar) {
+            Switch::MadeUp => made_up(),
+            Switch::At(switch) => record::on_ordinal(calendar, switch, year, ordinal),
         }
     }
 

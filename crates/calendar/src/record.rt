@@ -1,24 +1,22 @@
 // The record of a day, and the day of a label: arithmetic on days and years that are biased as naturals.
 
 ghost use mathlib.Core.Path.{_≡_};
-ghost use Prim.Native.Nat.{_≤_, _<_};
+ghost use Prim.Native.Nat.{_+_, _-_, _≤_, _<_};
 ghost use Rattle.days.specs.BiasedDays.{day};
-ghost use Rattle.days.specs.BiasedDays as Held;
-ghost use Rattle.days.specs.ClosedRuns.{Runs, julianMonth};
+ghost use Rattle.days.specs.ClosedRuns.{Runs, top, julianMonth, monthFirst};
 ghost use Rattle.days.specs.DayByDay.{Month};
 ghost use Rattle.inner.specs.Natural.{biasedYear};
 ghost use Rattle.calendar.specs.Calendars.{definitionOf, IsRecord};
-ghost use Rattle.calendar.specs.Promise.{Given, ByLabel, ByOrdinal};
-ghost use Rattle.calendar.specs.Natural.{SpotAt, OnSpot, DayInYear, plainRecord, Plain, UsualLabel, UsualOrdinal, OnUsualSpot, InTurning};
+ghost use Rattle.calendar.specs.Promise.{Given, AtYmd, AtOrdinal};
+ghost use Rattle.calendar.specs.Natural.{SpotAt, OnSpot, plainRecord, plainPlace, recordAt, SomeSwitch, PlacesLabel, PlacesEarly, LaterLabel, PlacesOrdinal, LaterOrdinal, Turns, TurnsLabel, TurnsOrdinal};
 use crate::Calendar;
 use crate::Date;
 use crate::Dated;
-use crate::Switch;
-use crate::Usual;
 use inner::DayNumber;
 use inner::Spot;
 use monthdays::DayOrdinal;
-use switches::Found;
+use refusals::Refusal;
+use switches::Read;
 
 // ---- From a day to its record
 
@@ -129,148 +127,259 @@ fn julian_month(year: u32, month: u32) -> u64
     }
 }
 
-// ---- From a label to its day
+// ---- Where a day stands
 
-fn on_label(calendar: Calendar, switch: u64, year: i32, month: u32, day: u32) -> Dated
-    requires { ⌜ Runs (definitionOf calendar) switch × Month month ⌝ }
-    ensures { λ d. ⌜ ByLabel calendar year month day d ⌝ }
-{
-    match switches::find(switch, whole::raised(year), month, day) {
-        Found::At(s) => given(calendar, switch, s),
-        Found::Refused(refusal) => Dated::Refused(refusal),
-    }
+// What is usual, the Julian days before a switch and the refusals are found in line; the days from a switch on, in its year, out of line, by
+// `turning`.
+
+// The biased day past it, its label, and its places in its year and its month.
+struct Place {
+    past: u64,
+    ordinal: u32,
+    month: u32,
+    day: u32,
+    day_ordinal: u32,
+}
+
+enum Placed {
+    At(Place),
+    Refused(Refusal),
 }
 
 // The record of a day, or that 32 bits do not hold its number.
-fn given(calendar: Calendar, switch: u64, s: Spot) -> Dated
-    requires { ⌜ Runs (definitionOf calendar) switch × OnSpot switch s ⌝ }
-    ensures { λ d. ⌜ Given calendar (Held.year (biasedYear (s .year))) (day (s .biased)) d ⌝ }
+fn given(calendar: Calendar, year: i32, p: Place) -> Dated
+    requires { ⌜ (1 ≤ p .past) × IsRecord calendar (day (p .past - 1)) (recordAt calendar year p) ⌝ }
+    ensures { λ d. ⌜ Given calendar year (day (p .past - 1)) d ⌝ }
 {
-    match inner::day_number(s.biased) {
-        DayNumber::Day(jdn) => Dated::Date(record_of(calendar, switch, s, jdn)),
-        DayNumber::Nothing => crate::refused_year(whole::lowered(s.year)),
-        DayNumber::Outside32 => crate::refused_year(whole::lowered(s.year)),
+    match inner::day_number(p.past - 1) {
+        DayNumber::Day(jdn) => Dated::Date(Date {
+            calendar: calendar,
+            year: year,
+            ordinal: p.ordinal,
+            month: p.month,
+            day: p.day,
+            day_ordinal: p.day_ordinal,
+            jdn: jdn,
+        }),
+        DayNumber::Nothing => crate::refused_year(year),
+        DayNumber::Outside32 => crate::refused_year(year),
     }
+}
+
+// The places of a day in its own reckoning.
+fn plain_place(s: Spot) -> Place
+    requires { ⌜ s .biased < top ⌝ }
+    ensures { λ p. ⌜ p ≡ plainPlace s ⌝ }
+{
+    Place {
+        past: s.biased + 1,
+        ordinal: s.ordinal,
+        month: s.month,
+        day: s.day,
+        day_ordinal: s.day,
+    }
+}
+
+// ---- From a label to its day
+
+pub fn on_label(calendar: Calendar, switch: u64, year: i32, month: u32, day: u32) -> Dated
+    requires { ⌜ Runs (definitionOf calendar) switch ⌝ }
+    ensures { λ d. ⌜ AtYmd calendar year month day d ⌝ }
+{
+    if month < 1 {
+        return crate::refused_count(3, month);
+    }
+    if 12 < month {
+        return crate::refused_count(3, month);
+    }
+    match label_place(switch, whole::raised(year), month, day) {
+        Placed::At(p) => given(calendar, year, p),
+        Placed::Refused(refusal) => Dated::Refused(refusal),
+    }
+}
+
+fn label_place(switch: u64, year: u32, month: u32, day: u32) -> Placed
+    requires { ⌜ SomeSwitch switch × Month month ⌝ }
+    ensures { λ p. ⌜ PlacesLabel switch year month day p ⌝ }
+{
+    match plain_label(switch, year, month, day) {
+        Early::At(p) => Placed::At(p),
+        Early::Refused(refusal) => Placed::Refused(refusal),
+        Early::Later => later_label(switch, year, month, day),
+    }
+}
+
+// What is answered in line, or that the label is looked for from the switch on, in its year.
+enum Early {
+    At(Place),
+    Refused(Refusal),
+    Later,
+}
+
+// A Julian day before the switch, and a day of a year that is wholly in one reckoning.
+fn plain_label(switch: u64, year: u32, month: u32, day: u32) -> Early
+    requires { ⌜ SomeSwitch switch ⌝ }
+    ensures { λ e. ⌜ PlacesEarly switch year month day e ⌝ }
+{
+    let old = inner::julian_start(year);
+    if old < switch {
+        return match switches::reading(inner::is_julian_leap(year), old, year, month, day) {
+            Read::Nothing => {
+                if old + 366 < switch {
+                    return Early::Refused(refusals::refusal_with(4, day));
+                }
+                Early::Later
+            }
+            Read::At(s) => {
+                if s.biased < switch {
+                    return Early::At(plain_place(s));
+                }
+                Early::Later
+            }
+        };
+    }
+    let new = inner::gregorian_start(year);
+    if switch <= new {
+        return match switches::reading(inner::is_gregorian_leap(year), new, year, month, day) {
+            Read::Nothing => Early::Refused(refusals::refusal_with(4, day)),
+            Read::At(s) => Early::At(plain_place(s)),
+        };
+    }
+    Early::Later
+}
+
+// The label from the switch on; its year begins on its first Julian day or on the switch.
+fn later_label(switch: u64, year: u32, month: u32, day: u32) -> Placed
+    requires { ⌜ Month month × LaterLabel switch year month day ⌝ }
+    ensures { λ p. ⌜ PlacesLabel switch year month day p ⌝ }
+{
+    let t = turning(switch, year, month, day);
+    if t < PAIR {
+        return Placed::Refused(refusals::refusal_with(t as u32, day));
+    }
+    let first = earlier(inner::julian_start(year), switch);
+    Placed::At(Place {
+        past: first + t / PAIR,
+        ordinal: (t / PAIR) as u32,
+        month: month,
+        day: day,
+        day_ordinal: (t % PAIR) as u32,
+    })
+}
+
+fn earlier(a: u64, b: u64) -> u64
+    ensures { λ r. ⌜ (a < b → r ≡ a) × (b ≤ a → r ≡ b) ⌝ }
+{
+    if a < b {
+        return a;
+    }
+    b
 }
 
 // ---- From a place in a year to its day
 
-fn on_ordinal(calendar: Calendar, switch: u64, year: i32, ordinal: u32) -> Dated
+pub fn on_ordinal(calendar: Calendar, switch: u64, year: i32, ordinal: u32) -> Dated
     requires { ⌜ Runs (definitionOf calendar) switch ⌝ }
-    ensures { λ d. ⌜ ByOrdinal calendar year ordinal d ⌝ }
+    ensures { λ d. ⌜ AtOrdinal calendar year ordinal d ⌝ }
 {
-    let y = whole::raised(year);
-    let span = switches::year_span(switch, y);
+    match ordinal_place(switch, whole::raised(year), ordinal) {
+        Placed::At(p) => given(calendar, year, p),
+        Placed::Refused(refusal) => Dated::Refused(refusal),
+    }
+}
+
+// A year that is wholly in one reckoning comes first, then the Julian days of the year of a switch.
+fn ordinal_place(switch: u64, year: u32, ordinal: u32) -> Placed
+    requires { ⌜ SomeSwitch switch ⌝ }
+    ensures { λ p. ⌜ PlacesOrdinal switch year ordinal p ⌝ }
+{
     if ordinal < 1 {
-        return crate::refused_count(6, ordinal);
+        return Placed::Refused(refusals::refusal_with(6, ordinal));
     }
-    if span.past < span.first + ordinal as u64 {
-        return crate::refused_count(6, ordinal);
-    }
-    in_year(calendar, switch, y, span.first + ordinal as u64 - 1)
-}
-
-// The record of a day of a raised year, by its ordinal in its own reckoning.
-fn in_year(calendar: Calendar, switch: u64, year: u32, biased: u64) -> Dated
-    requires { ⌜ DayInYear calendar switch year biased ⌝ }
-    ensures { λ d. ⌜ Given calendar (Held.year (biasedYear year)) (day biased) d ⌝ }
-{
-    if biased < switch {
-        let ordinal = biased + 1 - inner::julian_start(year);
-        return given(
-            calendar,
-            switch,
-            spot_at(biased, year, ordinal as u32, inner::is_julian_leap(year)),
-        );
-    }
-    let ordinal = biased + 1 - inner::gregorian_start(year);
-    given(
-        calendar,
-        switch,
-        spot_at(biased, year, ordinal as u32, inner::is_gregorian_leap(year)),
-    )
-}
-
-// ---- Usual dates: of a year that is wholly in one reckoning
-
-pub fn usual_label(calendar: Calendar, year: i32, month: u32, day: u32) -> Usual
-    ensures { λ u. ⌜ UsualLabel calendar year month day u ⌝ }
-{
-    match crate::switch_of(calendar) {
-        Switch::MadeUp => Usual::Refused(refusals::refusal_of(16, 0)),
-        Switch::At(switch) => {
-            if month < 1 {
-                return Usual::Refused(refusals::refusal_with(3, month));
-            }
-            if 12 < month {
-                return Usual::Refused(refusals::refusal_with(3, month));
-            }
-            let y = whole::raised(year);
-            let at = switches::year_in(switch, y);
-            if at.whole {
-                return match monthdays::md2ordinal(at.leap, month, day) {
-                    DayOrdinal::Nothing => Usual::Refused(refusals::refusal_with(4, day)),
-                    DayOrdinal::At(ordinal) => {
-                        let s = Spot {
-                            biased: at.first + ordinal as u64 - 1,
-                            year: y,
-                            ordinal: ordinal,
-                            month: month,
-                            day: day,
-                        };
-                        usual_spot(calendar, switch, year, s)
-                    }
-                };
-            }
-            Usual::Turning(switch)
+    let at = switches::year_in(switch, year);
+    if at.whole {
+        if inner::days_in_year(at.leap) < ordinal {
+            return Placed::Refused(refusals::refusal_with(6, ordinal));
         }
+        let biased = at.first + ordinal as u64 - 1;
+        return Placed::At(plain_place(spot_at(biased, year, ordinal, at.leap)));
     }
+    let span = switches::year_span(switch, year);
+    let past = span.first + ordinal as u64;
+    if span.past < past {
+        return Placed::Refused(refusals::refusal_with(6, ordinal));
+    }
+    if past <= switch {
+        let s = spot_at(past - 1, year, ordinal, inner::is_julian_leap(year));
+        return Placed::At(plain_place(s));
+    }
+    let t = turning(switch, year, 0, ordinal);
+    Placed::At(Place {
+        past: past,
+        ordinal: ordinal,
+        month: (t / PAIR / 32) as u32,
+        day: (t / PAIR % 32) as u32,
+        day_ordinal: (t % PAIR) as u32,
+    })
 }
 
-pub fn usual_ordinal(calendar: Calendar, year: i32, ordinal: u32) -> Usual
-    ensures { λ u. ⌜ UsualOrdinal calendar year ordinal u ⌝ }
-{
-    match crate::switch_of(calendar) {
-        Switch::MadeUp => Usual::Refused(refusals::refusal_of(16, 0)),
-        Switch::At(switch) => {
-            let y = whole::raised(year);
-            if ordinal < 1 {
-                return Usual::Refused(refusals::refusal_with(6, ordinal));
-            }
-            let at = switches::year_in(switch, y);
-            if at.whole {
-                if inner::days_in_year(at.leap) < ordinal {
-                    return Usual::Refused(refusals::refusal_with(6, ordinal));
-                }
-                let s = spot_at(at.first + ordinal as u64 - 1, y, ordinal, at.leap);
-                return usual_spot(calendar, switch, year, s);
-            }
-            Usual::Turning(switch)
-        }
-    }
-}
+// ---- From the switch on, in its year
 
-// The record of a spot in such a year, or that 32 bits do not hold its day number.
-fn usual_spot(calendar: Calendar, switch: u64, year: i32, s: Spot) -> Usual
-    requires { ⌜ Runs (definitionOf calendar) switch × OnSpot switch s × Plain switch s ⌝ }
-    ensures { λ u. ⌜ OnUsualSpot calendar year s u ⌝ }
-{
-    match inner::day_number(s.biased) {
-        DayNumber::Day(jdn) => Usual::Date(plain_record(calendar, s, jdn)),
-        DayNumber::Nothing => Usual::Refused(refusals::outside_32_bits(year)),
-        DayNumber::Outside32 => Usual::Refused(refusals::outside_32_bits(year)),
-    }
-}
+// Two numbers below it come back as one, which a register holds: a struct comes back through memory.
+const PAIR: u64 = 4_294_967_296;
 
-// ---- The year of a switch: a day of a month, or with month 0 a day of the whole year
-
-// It has two callers, and so the compiler leaves it out of the way of the usual dates.
-pub fn turning(calendar: Calendar, switch: u64, year: i32, month: u32, number: u32) -> Dated
-    requires { ⌜ Runs (definitionOf calendar) switch × (month ≤ 12) ⌝ }
-    ensures { λ d. ⌜ InTurning calendar year month number d ⌝ }
+// Of a day of a month, or with month 0 of a day of the whole year. It has two callers, and so the compiler leaves it out of the way of the
+// usual dates.
+fn turning(switch: u64, year: u32, month: u32, number: u32) -> u64
+    requires { ⌜ (month ≡ 0 → LaterOrdinal switch year number) ⌝ }
+    ensures { λ t. ⌜ Turns switch year month number t ⌝ }
 {
     if month == 0 {
-        return on_ordinal(calendar, switch, year, number);
+        return turned_ordinal(switch, year, number);
     }
-    on_label(calendar, switch, year, month, number)
+    turned_label(switch, year, month, number)
+}
+
+// The places of a label in its year and its month, which count the Julian days too; 4 where it is nowhere, and 5 where it is skipped.
+fn turned_label(switch: u64, year: u32, month: u32, day: u32) -> u64
+    ensures { λ t. ⌜ TurnsLabel switch year month day t ⌝ }
+{
+    let start = inner::gregorian_start(year);
+    match switches::reading(inner::is_gregorian_leap(year), start, year, month, day) {
+        Read::Nothing => 4,
+        Read::At(s) => {
+            if s.biased < switch {
+                return 5;
+            }
+            let first = switches::first_day(switch, inner::julian_start(year), start);
+            (s.biased + 1 - first) * PAIR + month_place(switch, s)
+        }
+    }
+}
+
+// The month and the day of an ordinal, 32 times the one and the other, and the place in the month.
+fn turned_ordinal(switch: u64, year: u32, ordinal: u32) -> u64
+    requires { ⌜ LaterOrdinal switch year ordinal ⌝ }
+    ensures { λ t. ⌜ TurnsOrdinal switch year ordinal t ⌝ }
+{
+    let start = inner::gregorian_start(year);
+    let first = switches::first_day(switch, inner::julian_start(year), start);
+    let past = first + ordinal as u64;
+    let s = spot_at(
+        past - 1,
+        year,
+        (past - start) as u32,
+        inner::is_gregorian_leap(year),
+    );
+    (s.month as u64 * 32 + s.day as u64) * PAIR + month_place(switch, s)
+}
+
+// The place in its month of a Gregorian day from the switch on.
+fn month_place(switch: u64, s: Spot) -> u64
+    requires { ⌜ OnSpot switch s × (switch ≤ s .biased) ⌝ }
+    ensures { λ r. ⌜ (r < 4_294_967_296) × (s .biased + 1 - monthFirst switch (biasedYear (s .year)) (s .month) ≡ r) ⌝ }
+{
+    let past = s.biased + 1;
+    let first = switches::first_day(switch, julian_month(s.year, s.month), past - s.day as u64);
+    past - first
 }

@@ -1,54 +1,47 @@
 -- `calendar::Calendar::at_ymd` meets its promise.
 -- Assumes nothing.
+use Prim.Native.Nat.{_-_}
 use borrow.Author.Needs.{needs}
 use mir.Facts.{toZ-ofZ}
-use Rattle.days.specs.DayByDay.{Month}
 use Rattle.days.specs.ClosedRuns.{Runs}
 use Rattle.calendar.specs.Calendars.{definitionOf}
-use Rattle.calendar.specs.Rows.{passes}
-use Rattle.calendar.specs.Laws.{label-turning}
+use Rattle.calendar.specs.Laws.{switch-runs, switch-made-up}
+use Rattle.calendar.specs.Rows.{refuses}
 use Rattle.calendar.proofs.Calendar.at_ymd.Statement.{statement}
 use Rattle.calendar.proofs.Calendar.at_ymd.Tie as tie
 
-turns : (c : tie.After-known-told3) → Runs (definitionOf (c .before .before .before .before .args .self)) (c .before .switch .given .0 .0) × Month (c .before .before .before .before .args .month)
-turns c = rw (c .before .switch .given .1) at (c .before .before .before .usual-label .ensures)
+runs : (c : tie.After-known-told) → Runs (definitionOf (c .before .before .before .before .args .self)) (c .before .switch .given .0 .0)
+runs c = switch-runs _ (rw (c .before .switch .given .1) at (c .before .before .before .switch-of .ensures))
 
-usual-label-requires : tie.Need-usual-label-requires
-usual-label-requires c κs = search needs
+switch-of-requires : tie.Need-switch-of-requires
+switch-of-requires c κs = search needs
 
-enum-known-date : tie.Need-enum-known-date
-enum-known-date c = search needs
+enum-told : tie.Need-enum-told
+enum-told c = search needs
 
-enum-known-refusal : tie.Need-enum-known-refusal
-enum-known-refusal c = search needs
+made-up-requires : tie.Need-made-up-requires
+made-up-requires c κs = search needs
 
 enum-known-switch : tie.Need-enum-known-switch
 enum-known-switch c = search needs
 
-turning-requires : tie.Need-turning-requires
-turning-requires c κs = (turns c .0, turns c .1 .1)
+on-label-requires : tie.Need-on-label-requires
+on-label-requires c κs = runs c
 
 returns : tie.Need-returns
-returns c = let a = c .before .before .before .before in rw (toZ-ofZ (a .fits .year), c .before .date .given .1) at (c .before .before .before .usual-label .ensures)
+returns c = rw (c .made-up .ensures) (refuses (switch-made-up _ (rw (c .before .enum-told .given .1) at (c .before .before .before .switch-of .ensures))))
 
 returns-2 : tie.Need-returns-2
-returns-2 c = let a = c .before .before .before .before in rw (toZ-ofZ (a .fits .year), c .before .refusal .given .1) at (c .before .before .before .usual-label .ensures)
-
-returns-3 : tie.Need-returns-3
-returns-3 c =
-    let a = c .before .before .before .before .before in
-    let (r, m) = turns (c .before) in
-    passes (r .accepted) (passes m (label-turning (a .args .self) (a .args .month) (m .0) (rw (toZ-ofZ (a .fits .year)) at (c .turning .ensures))))
+returns-2 c = rw (toZ-ofZ (c .before .before .before .before .before .fits .year)) at (c .on-label .ensures)
 
 pub at-ymd-spec : {M : Type 1} → statement M
 at-ymd-spec =
     tie.close
     (tie.spec
-    usual-label-requires
-    enum-known-date
-    enum-known-refusal
+    switch-of-requires
+    enum-told
+    made-up-requires
     enum-known-switch
-    turning-requires
+    on-label-requires
     returns
-    returns-2
-    returns-3)
+    returns-2)

@@ -1,58 +1,93 @@
--- `calendar::record::on_label` meets its promise, row by row.
+-- `calendar::record::on_label` meets its promise.
 -- Assumes nothing.
 use mathlib.Core.Path.{_≡_, _∙_}
 use Prim.Native.Nat.{_-_}
+use native.Mathlib.Omega.{arith}
 use borrow.Author.Needs.{needs}
+use mir.Syntax.{w32}
+use mir.Val.{toZ, ofZ}
 use mir.Facts.{toZ-ofZ}
 use Rattle.days.specs.BiasedDays.{year}
 use Rattle.inner.specs.Laws.{biased-year, raised-year-biased}
 use Rattle.inner.specs.Natural.{biasedYear}
-use Rattle.calendar.specs.Laws.{found-spot, found-row, refused-row}
 use Rattle.calendar.specs.declared.Dated.the-variants as Dated′
+use Rattle.calendar.specs.Rows.{refuses, passes}
+use Rattle.days.specs.DayByDay.{Month}
+use Rattle.calendar.specs.Laws.{place-some, place-record, place-ymd, refused-row}
 use Rattle.calendar.proofs.record.on_label.Statement.{statement}
 use Rattle.calendar.proofs.record.on_label.Tie as tie
 
-year-is : (c : tie.After-raised) → year (biasedYear (c .raised .result)) ≡ c .before .args .year
-year-is c = biased-year (c .raised .result) ∙ c .raised .ensures ∙ toZ-ofZ (c .before .fits .year)
+abbrev start : tie.After-raised → tie.Start
+start c = c .before .before .before
+
+month-is : (c : tie.After-raised) → Month (start c .args .month)
+month-is c = (c .before .before .if1 .left, c .before .if2 .left)
+
+biased-year-is : (c : tie.After-raised) → year (biasedYear (c .raised .result)) ≡ toZ w32 (ofZ w32 (c .before .before .before .args .year))
+biased-year-is c = biased-year (c .raised .result) ∙ c .raised .ensures
+
+year-is : (c : tie.After-raised) → year (biasedYear (c .raised .result)) ≡ c .before .before .before .args .year
+year-is c = biased-year-is c ∙ toZ-ofZ (c .before .before .before .fits .year)
+
+refused-count-requires : tie.Need-refused-count-requires
+refused-count-requires c κs = search needs
+
+returns : tie.Need-returns
+returns c = rw (c .refused-count .ensures) (passes (c .before .before .pre .accepted) (refuses (λ v. omega (arith, v .0, c .before .if1 .taken))))
+
+refused-count-requires-2 : tie.Need-refused-count-requires-2
+refused-count-requires-2 c κs = search needs
+
+returns-2 : tie.Need-returns-2
+returns-2 c = rw (c .refused-count2 .ensures) (passes (c .before .before .before .pre .accepted) (refuses (λ v. omega (arith, v .1, c .before .if2 .taken))))
 
 raised-requires : tie.Need-raised-requires
 raised-requires c κs = search needs
 
-find-requires : tie.Need-find-requires
-find-requires c κs = search needs
+label-place-requires : tie.Need-label-place-requires
+label-place-requires c κs = ((start c .args .calendar, start c .pre), month-is c)
 
-enum-known-s : tie.Need-enum-known-s
-enum-known-s c = search needs
+enum-known-p : tie.Need-enum-known-p
+enum-known-p c = search needs
 
 given-requires : tie.Need-given-requires
 given-requires c κs =
     let n = c .before .before .before in
-    let a = n .before .before in
-    (a .pre .0, found-spot (a .args .calendar) (a .pre .0) (raised-year-biased (n .before .raised .ok)) (year-is (n .before)) (rw (c .before .s .given .1) at (n .find .ensures)))
+    let y = n .before in
+    let a = start y in
+    let (i, e, f) = rw (c .before .p .given .1) at (n .label-place .ensures) in
+    (place-some (a .args .calendar) (a .pre) (biased-year-is y) i, place-record (a .args .calendar) (a .pre) (biased-year-is y) i)
 
 enum-known-refusal : tie.Need-enum-known-refusal
 enum-known-refusal c = search needs
 
-returns : tie.Need-returns
-returns c =
+returns-3 : tie.Need-returns-3
+returns-3 c =
     let n = c .before .before .before .before in
-    let a = n .before .before in
-    found-row (a .args .calendar) (a .pre .0) (raised-year-biased (n .before .raised .ok)) (year-is (n .before)) (rw (c .before .before .s .given .1) at (n .find .ensures)) (c .given .ensures)
+    let y = n .before in
+    let a = start y in
+    let (i, e, f) = rw (c .before .before .p .given .1) at (n .label-place .ensures) in
+    place-ymd (a .args .calendar) (a .pre) (year-is y) i e f (rw (toZ-ofZ (a .fits .year)) at (c .given .ensures))
 
-returns-2 : tie.Need-returns-2
-returns-2 c =
+returns-4 : tie.Need-returns-4
+returns-4 c =
     let n = c .before .before .before in
-    let a = n .before .before in
-    refused-row (a .args .calendar) (a .pre .0) (raised-year-biased (n .before .raised .ok)) (year-is (n .before)) Dated′.Refused (rw (c .before .refusal .given .1) at (n .find .ensures))
+    let y = n .before in
+    let a = start y in
+    passes (a .pre .accepted) (passes (month-is y) (refused-row (a .args .calendar) (a .pre) (raised-year-biased (y .raised .ok)) (year-is y) Dated′.Refused (rw (c .before .refusal .given .1) at (n .label-place .ensures))))
 
 pub on-label-spec : {M : Type 1} → statement M
 on-label-spec =
     tie.close
     (tie.spec
+    refused-count-requires
+    returns
+    refused-count-requires-2
+    returns-2
     raised-requires
-    find-requires
-    enum-known-s
+    label-place-requires
+    enum-known-p
     given-requires
     enum-known-refusal
-    returns
-    returns-2)
+    returns-3
+    returns-4)
