@@ -11,7 +11,7 @@ use lib.IntN.{ℤ, pos}
 use Rattle.whole.specs.Tests.{lt-or-ge}
 use Rattle.whole.specs.Biased.{unbias}
 use Rattle.days.specs.DayByDay as D
-use Rattle.days.specs.DayByDay.{AcceptedReformation, Label, label, Borne, OfYear, Place, Ordinal, DayOrdinal, Is32Bit, Style, JulianStyle, GregorianStyle, style, Month}
+use Rattle.days.specs.DayByDay.{AcceptedReformation, Label, label, Borne, OfYear, Place, Ordinal, DayOrdinal, Is32Bit, Style, JulianStyle, GregorianStyle, style, Month, monthLength}
 use Rattle.days.specs.RisingLabels.{nth-within}
 use Rattle.days.specs.BiasedDays.{dayBias, day, year, BiasedYear}
 use Rattle.days.specs.ClosedYear.{yearLength, year-most}
@@ -45,12 +45,12 @@ use Rattle.calendar.specs.declared.Dated.the-variants as Dated′
 use Rattle.calendar.specs.declared.Switch.the-variants as Switch′
 use Rattle.calendar.specs.declared.record.Place as P
 use Rattle.calendar.specs.declared.record.Placed.the-variants as Placed′
+use Rattle.calendar.specs.declared.record.Read.the-variants as Read′
 use Rattle.inner.specs.declared.Spot as S
 use Rattle.inner.specs.Spots.{At, spot, at-number, at-from, at-few}
 use Rattle.switches.specs.declared.Found.the-variants as Found′
-use Rattle.switches.specs.declared.Read.the-variants as Read′
-use Rattle.switches.specs.Spots.{YearSpan, ThereIn, Reads, reads-at, reads-none, NoneBelow, ReadsBelow, below-none, Finds, finds-old, finds-new, finds-gap, finds-none}
-use Rattle.switches.specs.Laws.{starts-close, Wholly, wholly-old, wholly-new, wholly-none, wholly-days, ordinal-sum, read-at, below-not, below-late, below-year}
+use Rattle.switches.specs.Spots.{YearSpan, ThereIn, NoneBelow, Finds, finds-old, finds-new, finds-gap, finds-none}
+use Rattle.switches.specs.Laws.{starts-close, Wholly, wholly-old, wholly-new, wholly-none, wholly-days, ordinal-sum, read-at}
 use Rattle.refusals.specs.declared.Refusal.{Refusal}
 use Rattle.ways.specs.declared.Neighbour.the-variants as Neighbour′
 use Rattle.ways.specs.Ways.{IsNeighbour, there, nowhere}
@@ -58,7 +58,7 @@ use Rattle.calendar.specs.Calendars.{definitionOf, labels, Accepted, IsR
 use Rattle.calendar.specs.Rows.{refuses, passes}
 use Rattle.calendar.specs.Promise.{refusal, refused, refusedReformation, Reforms, judged, RecordOf, record-of, Given, on-label, ByOrdinal, OffYear, on-ordinal, AtJdn, AtYmd, AtOrdinal, IsGenuine, Next, ConvertsTo}
 use Rattle.calendar.specs.One.{whole, record-one}
-use Rattle.calendar.specs.Natural.{SwitchIs, switches-at, no-calendar, SomeSwitch, LabelledAt, old, new, OnSpot, OfALabel, plainRecord, Plain, SpotAt, IsPlace, plainPlace, recordAt, LabelAt, LaterLabel, PlacesOrdinal, ordinal-at-place, ordinal-off, LaterOrdinal, pair, TurnsLabel, turns-at, turns-gap, turns-none, TurnsOrdinal, turns-day, Turns, fieldsOf}
+use Rattle.calendar.specs.Natural.{SwitchIs, switches-at, no-calendar, SomeSwitch, LabelledAt, old, new, OnSpot, OfALabel, plainRecord, Plain, SpotAt, IsPlace, plainPlace, recordAt, ReadsLabel, reads-at, reads-none, LabelAt, LaterLabel, PlacesOrdinal, ordinal-at-place, ordinal-off, LaterOrdinal, pair, TurnsLabel, turns-at, turns-gap, turns-none, TurnsOrdinal, turns-day, Turns, fieldsOf}
 
 -- ---- Where a calendar switches
 pub switch-accepted : {r : ℤ} {k : ℕ} → Judges r (Judgement′.Accepted k) → SwitchIs (Reforming r) (Switch′.At k)
@@ -496,40 +496,40 @@ never-both : {r : ℕ} (k : ℕ) → r ≤ k → k < r → ⊥
 never-both k g h = omega arith
 
 -- ---- From a label
-none-below : {r y m d : ℕ} → ReadsBelow r y m d Read′.Nothing → NoneBelow r y m d
-none-below (below-none n) = n
-
 begun : {r t : ℕ} (y : ℕ) → t ≡ J.start (biasedYear y) → t < r → r ≤ J.start (biasedYear y) → G.start (biasedYear y) < r
 begun {r} y f g i = absurd (never-both (J.start (biasedYear y)) i (subst (λ (k : ℕ). k < r) f g))
 
 module _ {r m d t : ℕ} {b : Bool} (y : ℕ) (h : BiasedYear (biasedYear y)) where
   -- a Julian day before the switch, and a day of a year that begins from the switch on
-  pub early-old : {s : S.Spot} → SomeSwitch r → b ≡ J.leapAt (biasedYear y) → t ≡ J.start (biasedYear y) → Reads b t y m d (Read′.At s) → s .biased < r → LabelAt r y m d (plainPlace s)
+  pub early-old : {s : S.Spot} → SomeSwitch r → b ≡ J.leapAt (biasedYear y) → t ≡ J.start (biasedYear y) → ReadsLabel b t y m d (Read′.At s) → s .biased < r → LabelAt r y m d (plainPlace s)
   early-old w e f (reads-at {o} v q) g = (plain-stands w (spot (t + o - 1) y o m d) (old g (read-at J.leapAt J.start y m d h e f v q)) (λ i. absurd (never-both (t + o - 1) i g)), refl, refl)
 
-  pub early-new : {s : S.Spot} → SomeSwitch r → b ≡ G.leapAt (biasedYear y) → t ≡ G.start (biasedYear y) → Reads b t y m d (Read′.At s) → r ≤ t → LabelAt r y m d (plainPlace s)
+  pub early-new : {s : S.Spot} → SomeSwitch r → b ≡ G.leapAt (biasedYear y) → t ≡ G.start (biasedYear y) → ReadsLabel b t y m d (Read′.At s) → r ≤ t → LabelAt r y m d (plainPlace s)
   early-new w e f (reads-at {o} v q) g =
       let (l, p) = in-new (subst (λ (k : ℕ). r ≤ k) f g) (read-at G.leapAt G.start y m d h e f v q) in
       (plain-stands w (spot (t + o - 1) y o m d) l p, refl, refl)
 
   -- a label that a year has not which is wholly in one reckoning
-  pub old-none : b ≡ J.leapAt (biasedYear y) → t ≡ J.start (biasedYear y) → Reads b t y m d Read′.Nothing → t + 366 < r → Finds r y m d (Found′.Refused (refusal 4 (pos d)))
+  pub old-none : b ≡ J.leapAt (biasedYear y) → t ≡ J.start (biasedYear y) → ReadsLabel b t y m d Read′.Nothing → t + 366 < r → Finds r y m d (Found′.Refused (refusal 4 (pos d)))
   old-none e f (reads-none n) g = let (i, j) = wholly-none y (wholly-old (subst (λ (k : ℕ). k + 366 < r) f g)) (subst (λ (b : Bool). ¬ ThereIn b m d) e n) in finds-none i j
 
-  pub new-none : b ≡ G.leapAt (biasedYear y) → t ≡ G.start (biasedYear y) → Reads b t y m d Read′.Nothing → {u : ℕ} → u ≡ J.start (biasedYear y) → r ≤ u → r ≤ t → Finds r y m d (Found′.Refused (refusal 4 (pos d)))
+  pub new-none : b ≡ G.leapAt (biasedYear y) → t ≡ G.start (biasedYear y) → ReadsLabel b t y m d Read′.Nothing → {u : ℕ} → u ≡ J.start (biasedYear y) → r ≤ u → r ≤ t → Finds r y m d (Found′.Refused (refusal 4 (pos d)))
   new-none e f (reads-none n) k i g =
       let (i, j) = wholly-none y (wholly-new (subst (λ (k : ℕ). r ≤ k) k i) (subst (λ (k : ℕ). r ≤ k) f g)) (subst (λ (b : Bool). ¬ ThereIn b m d) e n) in
       finds-none i j
 
   -- one that is looked for from the switch on
-  pub later-none : b ≡ J.leapAt (biasedYear y) → t ≡ J.start (biasedYear y) → t < r → Reads b t y m d Read′.Nothing → LaterLabel r y m d
-  later-none e f g n = (none-below (below-not h e f n), begun y f g)
+  pub later-none : b ≡ J.leapAt (biasedYear y) → t ≡ J.start (biasedYear y) → t < r → ReadsLabel b t y m d Read′.Nothing → LaterLabel r y m d
+  later-none e f g (reads-none n) = (λ i. absurd (n (i .0, i .1, i .2, subst (λ (b : Bool). d ≤ monthLength b m) (sym e) (i .3))), begun y f g)
 
-  pub later-late : {s : S.Spot} → b ≡ J.leapAt (biasedYear y) → t ≡ J.start (biasedYear y) → t < r → Reads b t y m d (Read′.At s) → r ≤ s .biased → LaterLabel r y m d
-  later-late e f g n i = (none-below (below-late h e f n i), begun y f g)
+  pub later-late : {s : S.Spot} → b ≡ J.leapAt (biasedYear y) → t ≡ J.start (biasedYear y) → t < r → ReadsLabel b t y m d (Read′.At s) → r ≤ s .biased → LaterLabel r y m d
+  later-late e f g (reads-at v q) i = (λ j. subst (λ (n : ℕ). r ≤ n) (sym (at-number (read-at J.leapAt J.start y m d h e f v q))) i, begun y f g)
 
 pub later-new : {r m d t u : ℕ} (y : ℕ) → t ≡ J.start (biasedYear y) → r ≤ t → u ≡ G.start (biasedYear y) → u < r → LaterLabel r y m d
-later-new {r} y f g e i = (none-below (below-year f g), λ j. subst (λ (k : ℕ). k < r) e i)
+later-new {r} {m} {d} y f g e i = (λ j. late (J.start (biasedYear y)) (daysBefore (J.leapAt (biasedYear y)) m) (subst (λ (k : ℕ). r ≤ k) f g) (j .2), λ j. subst (λ (k : ℕ). k < r) e i)
+  where
+    late : (s b : ℕ) → r ≤ s → 1 ≤ d → r ≤ s + b + d - 1
+    late s b g h = omega arith
 
 -- what is found from the switch on: 4, 5, or the places
 module _ {r m d : ℕ} (y : ℕ) (l : LaterLabel r y m d) where
@@ -701,21 +701,21 @@ label-turning (suc m) h p = p
 
 -- a label in the Gregorian reckoning
 module _ {r y m d t : ℕ} {b : Bool} (h : BiasedYear (biasedYear y)) (e : b ≡ G.leapAt (biasedYear y)) (f : t ≡ G.start (biasedYear y)) where
-  pub reads-new : {s : S.Spot} → Reads b t y m d (Read′.At s) → r ≤ s .biased → OnSpot r s
+  pub reads-new : {s : S.Spot} → ReadsLabel b t y m d (Read′.At s) → r ≤ s .biased → OnSpot r s
   reads-new (reads-at v q) g = new g (read-at G.leapAt G.start y m d h e f v q)
 
-  pub reads-room : {s : S.Spot} {j w : ℕ} → Reads b t y m d (Read′.At s) → r ≤ s .biased → j ≡ J.start (biasedYear y) → w ≡ firstDay r j t → (w ≤ s .biased) × (s .biased + 1 - w < 4_294_967_296)
+  pub reads-room : {s : S.Spot} {j w : ℕ} → ReadsLabel b t y m d (Read′.At s) → r ≤ s .biased → j ≡ J.start (biasedYear y) → w ≡ firstDay r j t → (w ≤ s .biased) × (s .biased + 1 - w < 4_294_967_296)
   reads-room {s} {j} {w} (reads-at {o} v q) g i k =
       let a = read-at G.leapAt G.start y m d h e f v q in
       first-cases r j t (λ u z. omega (arith, k, z, i, f, a .adds, at-few a, at-from a, year-close a)) (λ u x z. omega (arith, k, z, i, f, a .adds, at-few a, at-from a)) (λ u x z. omega (arith, k, z, i, f, a .adds, at-few a, at-from a))
 
-  pub turned-none : Reads b t y m d Read′.Nothing → TurnsLabel r y m d 4
+  pub turned-none : ReadsLabel b t y m d Read′.Nothing → TurnsLabel r y m d 4
   turned-none (reads-none n) = turns-none (λ v. n (subst (λ (b : Bool). ThereIn b m d) (sym e) v))
 
-  pub turned-gap : {s : S.Spot} → Reads b t y m d (Read′.At s) → s .biased < r → TurnsLabel r y m d 5
+  pub turned-gap : {s : S.Spot} → ReadsLabel b t y m d (Read′.At s) → s .biased < r → TurnsLabel r y m d 5
   turned-gap (reads-at v q) g = let a = read-at G.leapAt G.start y m d h e f v q in turns-gap (a .there) (subst (λ (n : ℕ). n < r) (sym (at-number a)) g)
 
-  pub turned-at : {s : S.Spot} {j w n : ℕ} → Reads b t y m d (Read′.At s) → r ≤ s .biased → j ≡ J.start (biasedYear y) → w ≡ firstDay r j t → n < 4_294_967_296
+  pub turned-at : {s : S.Spot} {j w n : ℕ} → ReadsLabel b t y m d (Read′.At s) → r ≤ s .biased → j ≡ J.start (biasedYear y) → w ≡ firstDay r j t → n < 4_294_967_296
       → s .biased + 1 - monthFirst r (biasedYear (s .year)) (s .month) ≡ n → TurnsLabel r y m d (pair (s .biased + 1 - w) n)
   turned-at {w = w} (reads-at {o} v q) g i k u z = turns-at {i = t + o - 1 + 1 - w} g (read-at G.leapAt G.start y m d h e f v q) (omega (arith, reads-room (reads-at v q) g i k)) u (ap (λ (x : ℕ). t + o - 1 + 1 - x) (sym (k ∙ ap₂ (firstDay r) i f))) z
 

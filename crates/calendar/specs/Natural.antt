@@ -8,7 +8,7 @@ use Rattle.days.specs.DayByDay.{label, JulianStyle, style}
 use Rattle.days.specs.BiasedDays.{day, year}
 use Rattle.days.specs.ClosedJulian as J
 use Rattle.days.specs.ClosedGregorian as G
-use Rattle.days.specs.ClosedNumbers.{There, number}
+use Rattle.days.specs.ClosedNumbers.{There, number, daysBefore}
 use Rattle.days.specs.ClosedStarts as Starts
 use Rattle.days.specs.ClosedRuns.{Runs, top, yearFirst, monthFirst}
 use Rattle.inner.specs.Natural.{biasedYear}
@@ -20,6 +20,8 @@ use Rattle.calendar.specs.declared.Date.{Date}
 use Rattle.calendar.specs.declared.record.Place.{Place}
 use Rattle.calendar.specs.declared.record.Placed.{Placed}
 use Rattle.calendar.specs.declared.record.Placed.the-variants as Placed′
+use Rattle.calendar.specs.declared.record.Read.{Read}
+use Rattle.calendar.specs.declared.record.Read.the-variants as Read′
 use Rattle.calendar.specs.declared.record.Early.{Early}
 use Rattle.calendar.specs.declared.record.Early.the-variants as Early′
 use Rattle.calendar.specs.declared.Switch.{Switch}
@@ -31,7 +33,7 @@ use Rattle.calendar.specs.declared.ReformDate.the-variants as ReformDate
 use Rattle.calendar.specs.Calendars.{definitionOf, labels, Accepted, Skipped, sameStyle}
 use Rattle.calendar.specs.Rows.{Unless, If}
 use Rattle.switches.specs.declared.Found.the-variants as Found′
-use Rattle.switches.specs.Spots.{NoneBelow, Finds}
+use Rattle.switches.specs.Spots.{ThereIn, NoneBelow, Finds}
 use Rattle.calendar.specs.Promise.{refusal, made-up, Missing, ReformRecord}
 
 -- the calendar is Julian below the biased day r and Gregorian from it on; or it is made up
@@ -88,6 +90,11 @@ abbrev pub recordAt : Calendar → ℤ → Place → Date
 recordAt c z p = record { calendar = c; year = z; ordinal = p .ordinal; month = p .month; day = p .day; «day_ordinal» = p .«day_ordinal»; jdn = day (p .past - 1) }
 
 -- ---- From a label
+
+-- its day in a year that starts on a biased day, and is leap or not
+pub data ReadsLabel (leap : Bool) (start y m d : ℕ) : Read → Type 0 where
+  reads-at : {o : ℕ} → ThereIn leap m d → daysBefore leap m + d ≡ o → ReadsLabel leap start y m d (Read′.At (spot (start + o - 1) y o m d))
+  reads-none : ¬ ThereIn leap m d → ReadsLabel leap start y m d Read′.Nothing
 
 abbrev pub LabelAt : ℕ → ℕ → ℕ → ℕ → Place → Type 0
 LabelAt r y m d p = IsPlace r y p × (p .month ≡ m) × (p .day ≡ d)

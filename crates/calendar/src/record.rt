@@ -8,7 +8,7 @@ ghost use Rattle.days.specs.DayByDay.{Month};
 ghost use Rattle.inner.specs.Natural.{biasedYear};
 ghost use Rattle.calendar.specs.Calendars.{definitionOf, IsRecord};
 ghost use Rattle.calendar.specs.Promise.{Given, AtYmd, AtOrdinal};
-ghost use Rattle.calendar.specs.Natural.{SpotAt, OnSpot, plainRecord, plainPlace, recordAt, SomeSwitch, PlacesLabel, PlacesEarly, LaterLabel, PlacesOrdinal, LaterOrdinal, Turns, TurnsLabel, TurnsOrdinal};
+ghost use Rattle.calendar.specs.Natural.{SpotAt, OnSpot, plainRecord, plainPlace, recordAt, ReadsLabel, SomeSwitch, PlacesLabel, PlacesEarly, LaterLabel, PlacesOrdinal, LaterOrdinal, Turns, TurnsLabel, TurnsOrdinal};
 use crate::Calendar;
 use crate::Date;
 use crate::Dated;
@@ -16,7 +16,6 @@ use inner::DayNumber;
 use inner::Spot;
 use monthdays::DayOrdinal;
 use refusals::Refusal;
-use switches::Read;
 
 // ---- From a day to its record
 
@@ -129,8 +128,8 @@ fn julian_month(year: u32, month: u32) -> u64
 
 // ---- Where a day stands
 
-// What is usual, the Julian days before a switch and the refusals are found in line; the days from a switch on, in its year, out of line, by
-// `turning`.
+// What is usual, the Julian days before a switch and most refusals are found in line. The days from a switch on, in its year, and the labels
+// that are refused there, are found out of line, by `turning`.
 
 // The biased day past it, its label, and its places in its year and its month.
 struct Place {
@@ -180,6 +179,28 @@ fn plain_place(s: Spot) -> Place
     }
 }
 
+enum Read {
+    At(Spot),
+    Nothing,
+}
+
+// The day of a label in a reckoning, by the first day of the year and whether that is leap.
+fn reading(leap: bool, start: u64, year: u32, month: u32, day: u32) -> Read
+    requires { ⌜ start < 2_000_000_000_000 ⌝ }
+    ensures { λ r. ⌜ ReadsLabel leap start year month day r ⌝ }
+{
+    match monthdays::md2ordinal(leap, month, day) {
+        DayOrdinal::Nothing => Read::Nothing,
+        DayOrdinal::At(ordinal) => Read::At(Spot {
+            biased: start + ordinal as u64 - 1,
+            year: year,
+            ordinal: ordinal,
+            month: month,
+            day: day,
+        }),
+    }
+}
+
 // ---- From a label to its day
 
 pub fn on_label(calendar: Calendar, switch: u64, year: i32, month: u32, day: u32) -> Dated
@@ -223,7 +244,7 @@ fn plain_label(switch: u64, year: u32, month: u32, day: u32) -> Early
 {
     let old = inner::julian_start(year);
     if old < switch {
-        return match switches::reading(inner::is_julian_leap(year), old, year, month, day) {
+        return match reading(inner::is_julian_leap(year), old, year, month, day) {
             Read::Nothing => {
                 if old + 366 < switch {
                     return Early::Refused(refusals::refusal_with(4, day));
@@ -240,7 +261,7 @@ fn plain_label(switch: u64, year: u32, month: u32, day: u32) -> Early
     }
     let new = inner::gregorian_start(year);
     if switch <= new {
-        return match switches::reading(inner::is_gregorian_leap(year), new, year, month, day) {
+        return match reading(inner::is_gregorian_leap(year), new, year, month, day) {
             Read::Nothing => Early::Refused(refusals::refusal_with(4, day)),
             Read::At(s) => Early::At(plain_place(s)),
         };
@@ -345,7 +366,7 @@ fn turned_label(switch: u64, year: u32, month: u32, day: u32) -> u64
     ensures { λ t. ⌜ TurnsLabel switch year month day t ⌝ }
 {
     let start = inner::gregorian_start(year);
-    match switches::reading(inner::is_gregorian_leap(year), start, year, month, day) {
+    match reading(inner::is_gregorian_leap(year), start, year, month, day) {
         Read::Nothing => 4,
         Read::At(s) => {
             if s.biased < switch {

@@ -181,7 +181,7 @@ pub fn find(switch: u64, year: u32, month: u32, day: u32) -> Found
     }
 }
 
-pub enum Read {
+enum Read {
     At(Spot),
     Nothing,
 }
@@ -206,7 +206,7 @@ fn julian_below(switch: u64, year: u32, month: u32, day: u32) -> Read
 }
 
 // The day of a label in a reckoning, by the first day of the year and whether that is leap.
-pub fn reading(leap: bool, start: u64, year: u32, month: u32, day: u32) -> Read
+fn reading(leap: bool, start: u64, year: u32, month: u32, day: u32) -> Read
     requires { ⌜ start < 2_000_000_000_000 ⌝ }
     ensures { λ r. ⌜ Reads leap start year month day r ⌝ }
 {
