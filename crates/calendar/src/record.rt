@@ -68,7 +68,7 @@ fn record_of(calendar: Calendar, switch: u64, s: Spot, jdn: i32) -> Date
     if s.biased < switch {
         return plain_record(calendar, s, jdn);
     }
-    if switch + s.ordinal as u64 <= s.biased + 1 {
+    if switch + s.ordinal as u64 - 1 <= s.biased {
         return plain_record(calendar, s, jdn);
     }
     reform_record(calendar, switch, s, jdn)

@@ -16,7 +16,7 @@ use Rattle.days.specs.ReckoningSteps as Steps
 use Rattle.days.specs.ReckoningSteps.{Valid, after, after-stepping, after-sum, after-valid}
 use Rattle.days.specs.LabelOrder.{≺-year}
 use Rattle.days.specs.ClosedYear.{yearLength, DayOfMonth as MonthAndDay, dayOfMonth, dayOfYear, year-most, year-walk, year-over}
-use Rattle.days.specs.ClosedMonths.{no-month, ordinal-is, ordinal-within}
+use Rattle.days.specs.ClosedMonths.{twelve, ordinal-is, ordinal-within}
 use Rattle.days.specs.ClosedNumbers.{daysBefore, before, toThirty, monthAt, month-at}
 use Rattle.days.specs.ReckoningLabels.{after-later}
 use Rattle.monthdays.specs.declared.MonthDay.the-variants as MonthDay′
@@ -162,21 +162,11 @@ month-day-in {leap} {o} {m} {d} f t p =
     let q : (1 ≤ m) × (m ≤ 12) × (daysBefore leap m < o) × (o ≤ daysBefore leap m + monthLength leap m) = rw (p .month-is) (a, b, c, e) in
     ((q .0, q .1), omega (arith, p .day-is, q .2), omega (arith, p .day-is, q .3))
 
--- a month that has a day is a month
-pub month-of-length : (leap : Bool) {m d : ℕ} → 1 ≤ d → d ≤ monthLength leap m → Month m
-month-of-length leap {m} {d} f t = (
-  ⊎-elim (λ h. absurd (none (λ p. before-first h (p .0)))) (λ h. h) (lt-or-ge m 1),
-  ⊎-elim (λ h. absurd (none (λ p. past-last h (p .1)))) (λ h. h) (lt-or-ge 12 m),
-)
-  where
-    none : (Month m → ⊥) → ⊥
-    none n = omega (arith, no-month leap m n)
-
-    before-first : m < 1 → 1 ≤ m → ⊥
-    before-first h k = omega arith
-
-    past-last : 12 < m → m ≤ 12 → ⊥
-    past-last h k = omega arith
+-- every month has 28 days
+pub month-least : (leap : Bool) (m : ℕ) → Month m → 28 ≤ monthLength leap m
+unfolding monthLength
+month-least true m v = twelve (λ m. 28 ≤ monthLength true m) (omega arith) (omega arith) (omega arith) (omega arith) (omega arith) (omega arith) (omega arith) (omega arith) (omega arith) (omega arith) (omega arith) (omega arith) m (v .0) (v .1)
+month-least false m v = twelve (λ m. 28 ≤ monthLength false m) (omega arith) (omega arith) (omega arith) (omega arith) (omega arith) (omega arith) (omega arith) (omega arith) (omega arith) (omega arith) (omega arith) (omega arith) m (v .0) (v .1)
 
 -- the answers
 pub month-answer : {leap : Bool} {o m d : ℕ} → 1 ≤ o → o ≤ yearLength leap → MonthDayAt leap o m d → MonthDayOf leap o (MonthDay′.At m d)
@@ -184,12 +174,9 @@ month-answer {leap} {o} {m} {d} f t p =
     let (v, u, w) = month-day-in f t p in
     month-day (subst (λ (o : ℕ). OfOrdinal leap o m d) (p .day-is) (in-year-month leap m d v u w))
 
-module _ (leap : Bool) (m d : ℕ) {l : ℕ} (e : l ≡ monthLength leap m) (f : 1 ≤ d) (t : d ≤ l) where
-  pub month-there : Month m
-  month-there = month-of-length leap f (omega arith)
-
+module _ (leap : Bool) (m d : ℕ) (v : Month m) (f : 1 ≤ d) (t : d ≤ monthLength leap m) where
   pub ordinal-found : {b : ℕ} → b ≡ daysBefore leap m → OrdinalOf leap m d (DayOrdinal′.At (b + d))
-  ordinal-found g = rw g (ordinal (in-year-month leap m d month-there f (omega arith)))
+  ordinal-found g = rw g (ordinal (in-year-month leap m d v f t))
 
   pub ordinal-few : {b : ℕ} → b ≡ daysBefore leap m → b + d ≤ 366
-  ordinal-few g = let n : Month m = month-there in omega (arith, ordinal-within leap m (daysBefore leap m) d (n .0) (n .1) (omega arith) (before leap m (n .0) (n .1)), year-most leap)
+  ordinal-few g = omega (arith, ordinal-within leap m (daysBefore leap m) d (v .0) (v .1) t (before leap m (v .0) (v .1)), year-most leap)

@@ -2,7 +2,8 @@
 // For the crates above.
 
 ghost use mathlib.Core.Path.{_≡_};
-ghost use Prim.Native.Nat.{_+_, _≤_};
+ghost use mathlib.Core.Bool.{true, false};
+ghost use Prim.Native.Nat.{_+_, _≤_, _<_};
 ghost use Rattle.days.specs.DayByDay.{monthLength, Month};
 ghost use Rattle.days.specs.ClosedNumbers.{daysBefore, toThirty};
 ghost use Rattle.monthdays.specs.Promise.{MonthDayOf, OrdinalOf, MonthDayAt};
@@ -38,10 +39,27 @@ pub fn md2ordinal(leap: bool, month: u32, day: u32) -> DayOrdinal
     if day < 1 {
         return DayOrdinal::Nothing;
     }
-    if days_in_month(leap, month) < day {
+    if month < 1 {
+        return DayOrdinal::Nothing;
+    }
+    if 12 < month {
+        return DayOrdinal::Nothing;
+    }
+    if is_past(leap, month, day) {
         return DayOrdinal::Nothing;
     }
     DayOrdinal::At(days_before(leap, month) + day)
+}
+
+// Whether a day comes after the last one of a month. No month ends before its 28th, so most days need no look at its length.
+fn is_past(leap: bool, month: u32, day: u32) -> bool
+    requires { ⌜ Month month ⌝ }
+    ensures { λ b. ⌜ (b ≡ true → monthLength leap month < day) × (b ≡ false → day ≤ monthLength leap month) ⌝ }
+{
+    if day <= 28 {
+        return false;
+    }
+    days_in_month(leap, month) < day
 }
 
 // No day where there is no such month.

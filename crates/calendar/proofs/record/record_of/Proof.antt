@@ -23,8 +23,8 @@ cast-if2 c = search needs
 add-if2 : tie.Need-add-if2
 add-if2 c = record { fits = omega (arith, c .before .if1 .left, labelled-room (c .before .before .before .pre .1)) }
 
-add-if2-2 : tie.Need-add-if2-2
-add-if2-2 c = record { fits = omega (arith, labelled-room (c .before .before .before .before .pre .1)) }
+sub-if2 : tie.Need-sub-if2
+sub-if2 c = omega (arith, labelled-room (c .before .before .before .pre .1))
 
 plain-record-requires-2 : tie.Need-plain-record-requires-2
 plain-record-requires-2 c κs = search needs
@@ -32,7 +32,7 @@ plain-record-requires-2 c κs = search needs
 returns-2 : tie.Need-returns-2
 returns-2 c =
     let a = c .before .before .before .before .before .before in
-    rw (c .plain-record2 .ensures, toZ-ofZ (a .fits .jdn)) (record-plain (a .args .calendar) (a .pre .0) (a .args .s) (a .pre .1) (a .pre .2) (λ h. c .before .if2 .taken))
+    rw (c .plain-record2 .ensures, toZ-ofZ (a .fits .jdn)) (record-plain (a .args .calendar) (a .pre .0) (a .args .s) (a .pre .1) (a .pre .2) (λ h. omega (arith, c .before .if2 .taken, labelled-room (a .pre .1))))
 
 reform-record-requires : tie.Need-reform-record-requires
 reform-record-requires c κs =
@@ -50,7 +50,7 @@ record-of-spec =
     returns
     cast-if2
     add-if2
-    add-if2-2
+    sub-if2
     plain-record-requires-2
     returns-2
     reform-record-requires
