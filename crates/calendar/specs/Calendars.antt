@@ -8,7 +8,7 @@ use Rattle.calendar.specs.declared.Calendar.{Calendar}
 use Rattle.calendar.specs.declared.Calendar.the-variants.{Julian, Gregorian, Reforming}
 use Rattle.calendar.specs.declared.Date.{Date}
 
--- which calendar of the definition is definitionOf
+-- the calendar of the definition that it is
 abbrev pub definitionOf : Calendar → D.Calendar
 definitionOf Julian = D.Julian
 definitionOf Gregorian = D.Gregorian
@@ -17,7 +17,7 @@ definitionOf (Reforming r) = D.Reforming r
 abbrev pub timeline : Calendar → Timeline
 timeline c = D.timeline (definitionOf c)
 
--- the label of each day; which calendars are accepted, any other being made up; which labels are skipped
+-- the label of each day; which calendars are accepted, any other being made up; which labels are skipped, and which missing
 abbrev pub labels : Calendar → ℤ → Label
 labels c = D.labels (definitionOf c)
 
@@ -26,6 +26,9 @@ Accepted c = D.Accepted (definitionOf c)
 
 abbrev pub Skipped : Calendar → Label → Type 0
 Skipped c l = D.Skipped (definitionOf c) l
+
+abbrev pub Missing : Calendar → Label → Type 0
+Missing c l = D.Missing (definitionOf c) l
 
 -- d is the record of day n in the timeline t, which its records call c: calendar, year, ordinal, month, day, day ordinal, day number
 pub record IsRecordIn (t : Timeline) (c : Calendar) (n : ℤ) (d : Date) : Type 0 where

@@ -9,14 +9,16 @@ use native.Mathlib.Numerals.{add-one}
 use borrow.Author.Tests.{eqb-true, eqb-false}
 use lib.Dec.{eqb}
 use lib.IntN.{ℤ, sucℤ, predℤ, -ℤ-one}
+use Rattle.whole.specs.Whether.{Whether}
 use Rattle.whole.specs.Tests.{true-or-false}
-use Rattle.whole.specs.Biased.{unbias, unbias-suc, unbias-back, unbias-injective}
+use Rattle.whole.specs.Biased.{unbias-suc, unbias-back, unbias-injective}
+use Rattle.whole.specs.Promise.{unbias}
 use Rattle.days.specs.DayByDay.{Label, label, Is32Bit, Month, Borne, monthLength}
 use Rattle.days.specs.RisingLabels.{once}
 use Rattle.days.specs.ReckoningSteps.{month-least}
 use Rattle.days.specs.ClosedEnds.{suc-is, pred-is}
 use Rattle.days.specs.BiasedDays.{dayBias, yearBias, day, year, BiasedYear}
-use Rattle.days.specs.ClosedNumbers.{daysBefore}
+use Rattle.days.specs.ClosedNumbers.{daysBefore, ThereIn}
 use Rattle.days.specs.AcceptedCalendars.{accepted-rises}
 use Rattle.days.specs.ClosedRuns.{Runs, runs-one, on-none}
 use Rattle.inner.specs.Natural.{biasedDay, biasedYear}
@@ -25,10 +27,10 @@ use Rattle.inner.specs.Spots.{spot}
 use Rattle.monthdays.specs.Promise.{OrdinalOf}
 use Rattle.monthdays.specs.declared.DayOrdinal.the-variants as DayOrdinal′
 use Rattle.switches.specs.declared.PlainYear.{PlainYear}
-use Rattle.switches.specs.Spots.{YearIn, ThereIn}
+use Rattle.switches.specs.Promise.{YearIn}
 use Rattle.switches.specs.One.{year-in-one}
 use Rattle.switches.specs.Laws.{Wholly, year-wholly, wholly-none, ordinal-sum, ordinal-some, ordinal-none}
-use Rattle.ways.specs.Ways.{beside, Inside}
+use Rattle.ways.specs.Promise.{beside, Inside}
 use Rattle.ways.specs.Laws.{room-up, room-down}
 use Rattle.calendar.specs.declared.Calendar.{Calendar}
 use Rattle.calendar.specs.declared.Date.{Date}
@@ -101,8 +103,7 @@ pub record On (d : Date) (past o : ℕ) : Type 0 where
   pub day-is : day (past - 1) ≡ d .jdn
 
 abbrev pub IsOn : Date → ℕ → ℕ → Bool → Type 0
-IsOn d past o true = On d past o
-IsOn d past o false = ¬ On d past o
+IsOn d past o = Whether (On d past o)
 
 abbrev pub OneOn : Bool → ℕ → Type 0
 OneOn true n = n + 1 < 2 ^ 32

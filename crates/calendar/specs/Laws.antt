@@ -9,7 +9,7 @@ use borrow.Author.Tests.{lt-ltb, le-ltb}
 use lib.Dec.{ltb}
 use lib.IntN.{ℤ, pos}
 use Rattle.whole.specs.Tests.{lt-or-ge}
-use Rattle.whole.specs.Biased.{unbias}
+use Rattle.whole.specs.Promise.{unbias}
 use Rattle.days.specs.DayByDay as D
 use Rattle.days.specs.DayByDay.{AcceptedReformation, Label, label, Borne, OfYear, Place, Ordinal, DayOrdinal, Is32Bit, Style, JulianStyle, GregorianStyle, style, Month, monthLength}
 use Rattle.days.specs.RisingLabels.{nth-within}
@@ -17,10 +17,10 @@ use Rattle.days.specs.BiasedDays.{dayBias, day, year, BiasedYear}
 use Rattle.days.specs.ClosedYear.{yearLength, year-most}
 use Rattle.days.specs.RisingSpans.{Stretch}
 use Rattle.days.specs.ReckoningSteps.{month-most}
-use Rattle.days.specs.ClosedStarts.{Spot}
+use Rattle.days.specs.ClosedStarts.{InYear}
 use Rattle.days.specs.ClosedJulian as J
 use Rattle.days.specs.ClosedGregorian as G
-use Rattle.days.specs.ClosedNumbers.{daysBefore, few-before}
+use Rattle.days.specs.ClosedNumbers.{daysBefore, few-before, ThereIn}
 use Rattle.days.specs.ReformationRules.{all-three}
 use Rattle.days.specs.ReformationTable.{accepts-only, fits-biased, there-too}
 use Rattle.days.specs.AcceptedCalendars.{labels-proper, skipped-nowhere}
@@ -33,8 +33,9 @@ use Rattle.inner.specs.declared.DayNumber.{DayNumber}
 use Rattle.inner.specs.declared.DayNumber.the-variants as DayNumber′
 use Rattle.monthdays.specs.declared.DayOrdinal.the-variants as DayOrdinal′
 use Rattle.fields.specs.declared.Fields.{Fields}
-use Rattle.fields.specs.Same.{IsSame}
-use Rattle.switches.specs.Judging.{Judges, accepts-biased, refuses-with-1, refuses-with-2, refused-not}
+use Rattle.fields.specs.Promise.{IsSame}
+use Rattle.switches.specs.Promise.{Judges, accepts-biased, refuses-with-1, refuses-with-2, YearSpan, NoneBelow, Finds, finds-old, finds-new, finds-gap, finds-none}
+use Rattle.switches.specs.JudgingLaws.{refused-not}
 use Rattle.switches.specs.declared.reformation.Judgement.the-variants as Judgement′
 use Rattle.calendar.specs.declared.Calendar.{Calendar}
 use Rattle.calendar.specs.declared.Calendar.the-variants.{Reforming}
@@ -49,16 +50,15 @@ use Rattle.calendar.specs.declared.record.Read.the-variants as Read′
 use Rattle.inner.specs.declared.Spot as S
 use Rattle.inner.specs.Spots.{At, spot, at-number, at-from, at-few}
 use Rattle.switches.specs.declared.Found.the-variants as Found′
-use Rattle.switches.specs.Spots.{YearSpan, ThereIn, NoneBelow, Finds, finds-old, finds-new, finds-gap, finds-none}
 use Rattle.switches.specs.Laws.{starts-close, Wholly, wholly-old, wholly-new, wholly-none, wholly-days, ordinal-sum, read-at}
 use Rattle.refusals.specs.declared.Refusal.{Refusal}
 use Rattle.ways.specs.declared.Neighbour.the-variants as Neighbour′
-use Rattle.ways.specs.Ways.{IsNeighbour, there, nowhere}
+use Rattle.ways.specs.Promise.{IsNeighbour, there, nowhere}
 use Rattle.calendar.specs.Calendars.{definitionOf, labels, Accepted, IsRecord, Genuine, sameStyle, styleIs}
 use Rattle.calendar.specs.Rows.{refuses, passes}
-use Rattle.calendar.specs.Promise.{refusal, refused, refusedReformation, Reforms, judged, RecordOf, record-of, Given, on-label, ByOrdinal, OffYear, on-ordinal, AtJdn, AtYmd, AtOrdinal, IsGenuine, Next, ConvertsTo}
+use Rattle.calendar.specs.Promise.{refusal, refused, refusedReformation, Reforms, judged, RecordOf, record-of, Given, on-label, ByOrdinal, OffYear, on-ordinal, AtJdn, AtYmd, AtOrdinal, IsGenuine, Next, ConvertsTo, OfALabel}
 use Rattle.calendar.specs.One.{whole, record-one}
-use Rattle.calendar.specs.Natural.{SwitchIs, switches-at, no-calendar, SomeSwitch, LabelledAt, old, new, OnSpot, OfALabel, plainRecord, Plain, SpotAt, IsPlace, plainPlace, recordAt, ReadsLabel, reads-at, reads-none, LabelAt, LaterLabel, PlacesOrdinal, ordinal-at-place, ordinal-off, LaterOrdinal, pair, TurnsLabel, turns-at, turns-gap, turns-none, TurnsOrdinal, turns-day, Turns, fieldsOf}
+use Rattle.calendar.specs.Natural.{SwitchIs, switches-at, no-calendar, SomeSwitch, LabelledAt, old, new, OnSpot, plainRecord, Plain, SpotAt, IsPlace, plainPlace, recordAt, ReadsLabel, reads-at, reads-none, LabelAt, LaterLabel, PlacesOrdinal, ordinal-at-place, ordinal-off, LaterOrdinal, pair, TurnsLabel, turns-at, turns-gap, turns-none, TurnsOrdinal, turns-day, Turns, fieldsOf}
 
 -- ---- Where a calendar switches
 pub switch-accepted : {r : ℤ} {k : ℕ} → Judges r (Judgement′.Accepted k) → SwitchIs (Reforming r) (Switch′.At k)
@@ -72,7 +72,7 @@ switch-refused {r} j = no-calendar not
 
 -- ---- A day in its reckoning
 -- its ordinal, month and day by arithmetic
-pub at-spot : {leapAt : ℕ → Bool} {start : ℕ → ℕ} {k y m d o : ℕ} → BiasedYear y → Spot leapAt start k y o → MonthDayAt (leapAt y) o m d → At leapAt start k y m d o
+pub at-spot : {leapAt : ℕ → Bool} {start : ℕ → ℕ} {k y m d o : ℕ} → BiasedYear y → InYear leapAt start k y o → MonthDayAt (leapAt y) o m d → At leapAt start k y m d o
 at-spot h p q =
     let (v, f, t) = month-day-in (p .from) (p .to) q in
     record { biased = h; there = (v .0, v .1, f, t); ordinal-is = q .day-is; adds = p .adds }
@@ -221,14 +221,14 @@ given-none e (within w) = let z : _≡_ {A = ℕ} 0 1 = cc in omega arith
 given-none e (beyond b) = let z : _≡_ {A = ℕ} 0 1 = cc in omega arith
 
 -- a spot that was made of an ordinal is on its day
-pub spot-made : {leapAt : ℕ → Bool} {start : ℕ → ℕ} {k y o : ℕ} {b : Bool} {s : S.Spot} → BiasedYear (biasedYear y) → Spot leapAt start k (biasedYear y) o → b ≡ leapAt (biasedYear y) → SpotAt k y o b s
+pub spot-made : {leapAt : ℕ → Bool} {start : ℕ → ℕ} {k y o : ℕ} {b : Bool} {s : S.Spot} → BiasedYear (biasedYear y) → InYear leapAt start k (biasedYear y) o → b ≡ leapAt (biasedYear y) → SpotAt k y o b s
     → At leapAt start k (biasedYear y) (s .month) (s .day) o
 spot-made {leapAt} {o = o} {s = s} h p e q = at-spot h p (subst (λ (b : Bool). MonthDayAt b o (s .month) (s .day)) e (q .month-day))
 
-pub spot-old : {r k y o : ℕ} {b : Bool} {s : S.Spot} → BiasedYear (biasedYear y) → k < r → Spot J.leapAt J.start k (biasedYear y) o → b ≡ J.leapAt (biasedYear y) → SpotAt k y o b s → OnSpot r s
+pub spot-old : {r k y o : ℕ} {b : Bool} {s : S.Spot} → BiasedYear (biasedYear y) → k < r → InYear J.leapAt J.start k (biasedYear y) o → b ≡ J.leapAt (biasedYear y) → SpotAt k y o b s → OnSpot r s
 spot-old {r} h g p e q = subst (OnSpot r) (sym (q .is)) (old g (spot-made h p e q))
 
-pub spot-new : {r k y o : ℕ} {b : Bool} {s : S.Spot} → BiasedYear (biasedYear y) → r ≤ k → Spot G.leapAt G.start k (biasedYear y) o → b ≡ G.leapAt (biasedYear y) → SpotAt k y o b s → OnSpot r s
+pub spot-new : {r k y o : ℕ} {b : Bool} {s : S.Spot} → BiasedYear (biasedYear y) → r ≤ k → InYear G.leapAt G.start k (biasedYear y) o → b ≡ G.leapAt (biasedYear y) → SpotAt k y o b s → OnSpot r s
 spot-new {r} h g p e q = subst (OnSpot r) (sym (q .is)) (new g (spot-made h p e q))
 
 -- ---- What a switch says
@@ -609,7 +609,7 @@ module _ {r : ℕ} (y : ℕ) {o : ℕ} (h : BiasedYear (biasedYear y)) where
         below : a + o - 1 < r
         below = omega arith
 
-        own : Spot J.leapAt J.start (a + o - 1) (biasedYear y) (a + o - 1 + 1 - J.start (biasedYear y))
+        own : InYear J.leapAt J.start (a + o - 1) (biasedYear y) (a + o - 1 + 1 - J.start (biasedYear y))
         own = spot-of-year julian-alone h (subst (OfYear (year (biasedYear y))) (g .1 .below (a + o - 1) below room .0) of-year)
 
         begins : a ≡ J.start (biasedYear y)
@@ -618,8 +618,8 @@ module _ {r : ℕ} (y : ℕ) {o : ℕ} (h : BiasedYear (biasedYear y)) where
             first : (x : ℕ) → 1 ≤ a + o - 1 + 1 - x → x + (a + o - 1 + 1 - x) ≡ a + o - 1 + 1 → x < r
             first x i j = omega arith
 
-        spot-is : Spot J.leapAt J.start (a + o - 1) (biasedYear y) o
-        spot-is = subst (Spot J.leapAt J.start (a + o - 1) (biasedYear y)) (rest (J.start (biasedYear y)) begins) own
+        spot-is : InYear J.leapAt J.start (a + o - 1) (biasedYear y) o
+        spot-is = subst (InYear J.leapAt J.start (a + o - 1) (biasedYear y)) (rest (J.start (biasedYear y)) begins) own
           where
             rest : (x : ℕ) → a ≡ x → a + o - 1 + 1 - x ≡ o
             rest x e = omega arith
@@ -629,7 +629,7 @@ module _ {r : ℕ} (y : ℕ) {o : ℕ} (h : BiasedYear (biasedYear y)) where
       some = u;
       room = omega (arith, s .first-is, s .past-room);
       from = omega (arith, s .first-is);
-      spot-is = subst (λ (x : ℕ). Spot G.leapAt G.start (x + o - 1) (biasedYear y) (x + o - 1 + 1 - G.start (biasedYear y))) (s .first-is)
+      spot-is = subst (λ (x : ℕ). InYear G.leapAt G.start (x + o - 1) (biasedYear y) (x + o - 1 + 1 - G.start (biasedYear y))) (s .first-is)
           (spot-of-year gregorian-alone h (subst (OfYear (year (biasedYear y))) (g .1 .above (a + o - 1) (omega arith) room .0) of-year));
     }
 
@@ -653,8 +653,8 @@ off-row c {r} runs y {o} h e (ordinal-off n) = passes (runs .accepted) (subst (�
 
 -- ---- From the switch on, in its year
 module _ {r : ℕ} (y : ℕ) {o w g : ℕ} (h : BiasedYear (biasedYear y)) (l : LaterOrdinal r y o) (e : w ≡ yearFirst r (biasedYear y)) (f : g ≡ G.start (biasedYear y)) where
-  later-own : Spot G.leapAt G.start (w + o - 1) (biasedYear y) (w + o - g)
-  later-own = subst₂ (λ (k x : ℕ). Spot G.leapAt G.start k (biasedYear y) x) (ap (λ (x : ℕ). x + o - 1) (sym e)) (rest (yearFirst r (biasedYear y)) (G.start (biasedYear y)) e f (l .some)) (l .spot-is)
+  later-own : InYear G.leapAt G.start (w + o - 1) (biasedYear y) (w + o - g)
+  later-own = subst₂ (λ (k x : ℕ). InYear G.leapAt G.start k (biasedYear y) x) (ap (λ (x : ℕ). x + o - 1) (sym e)) (rest (yearFirst r (biasedYear y)) (G.start (biasedYear y)) e f (l .some)) (l .spot-is)
     where
       rest : (x s : ℕ) → w ≡ x → g ≡ s → 1 ≤ o → x + o - 1 + 1 - s ≡ w + o - g
       rest x s e f u = omega arith

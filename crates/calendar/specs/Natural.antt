@@ -4,17 +4,16 @@ use mathlib.Core.Bool.{Bool}
 use mathlib.Core.Logic.{_⊎_}
 use lib.IntN.{ℤ, pos}
 use Prim.Native.Nat.{ℕ, zero, suc, _+_, _-_, _*_, _<_, _≤_}
-use Rattle.days.specs.DayByDay.{label, JulianStyle, style}
+use Rattle.days.specs.DayByDay.{JulianStyle, style}
 use Rattle.days.specs.BiasedDays.{day, year}
 use Rattle.days.specs.ClosedJulian as J
 use Rattle.days.specs.ClosedGregorian as G
-use Rattle.days.specs.ClosedNumbers.{There, number, daysBefore}
+use Rattle.days.specs.ClosedNumbers.{There, number, daysBefore, ThereIn}
 use Rattle.days.specs.ClosedStarts as Starts
 use Rattle.days.specs.ClosedRuns.{Runs, top, yearFirst, monthFirst}
 use Rattle.inner.specs.Natural.{biasedYear}
 use Rattle.monthdays.specs.Promise.{MonthDayAt}
 use Rattle.fields.specs.declared.Fields.{Fields}
-use Rattle.refusals.specs.declared.Refusal.{Refusal}
 use Rattle.calendar.specs.declared.Calendar.{Calendar}
 use Rattle.calendar.specs.declared.Date.{Date}
 use Rattle.calendar.specs.declared.record.Place.{Place}
@@ -30,11 +29,11 @@ use Rattle.inner.specs.declared.Spot.{Spot}
 use Rattle.inner.specs.Spots.{At, spot}
 use Rattle.calendar.specs.declared.ReformDate.{ReformDate}
 use Rattle.calendar.specs.declared.ReformDate.the-variants as ReformDate′
-use Rattle.calendar.specs.Calendars.{definitionOf, labels, Accepted, Skipped, sameStyle}
-use Rattle.calendar.specs.Rows.{Unless, If}
+use Rattle.calendar.specs.Calendars.{definitionOf, labels, Accepted, sameStyle}
+use Rattle.calendar.specs.Rows.{Unless}
 use Rattle.switches.specs.declared.Found.the-variants as Found′
-use Rattle.switches.specs.Spots.{ThereIn, NoneBelow, Finds}
-use Rattle.calendar.specs.Promise.{refusal, made-up, Missing, ReformRecord}
+use Rattle.switches.specs.Promise.{NoneBelow, Finds}
+use Rattle.calendar.specs.Promise.{refusal, made-up, ReformRecord}
 
 -- the calendar is Julian below the biased day r and Gregorian from it on; or it is made up
 pub data SwitchIs (c : Calendar) : Switch → Type 0 where
@@ -52,10 +51,6 @@ pub data LabelledAt (r k y m d o : ℕ) : Type 0 where
 
 abbrev pub OnSpot : ℕ → Spot → Type 0
 OnSpot r s = LabelledAt r (s .biased) (biasedYear (s .year)) (s .month) (s .day) (s .ordinal)
-
--- a question of a label: 4, 5, and then the rows below
-abbrev pub OfALabel : {A : Type 0} → Calendar → ℤ → ℕ → ℕ → (Refusal → A) → (A → Type 0) → A → Type 0
-OfALabel c y m d refused Below = If (Missing c (label y m d)) (refused (refusal 4 (pos d))) (If (Skipped c (label y m d)) (refused (refusal 5 (pos d))) Below)
 
 -- the record of a spot whose places are those of its own reckoning
 abbrev pub plainRecord : Calendar → Spot → ℤ → Date
@@ -127,7 +122,7 @@ pub record LaterOrdinal (r y o : ℕ) : Type 0 where
   pub some : 1 ≤ o
   pub room : yearFirst r (biasedYear y) + o < top
   pub from : r ≤ yearFirst r (biasedYear y) + o - 1
-  pub spot-is : Starts.Spot G.leapAt G.start (yearFirst r (biasedYear y) + o - 1) (biasedYear y) (yearFirst r (biasedYear y) + o - 1 + 1 - G.start (biasedYear y))
+  pub spot-is : Starts.InYear G.leapAt G.start (yearFirst r (biasedYear y) + o - 1) (biasedYear y) (yearFirst r (biasedYear y) + o - 1 + 1 - G.start (biasedYear y))
 
 -- ---- From the switch on, in its year: two numbers below 2^32 as one
 

@@ -1,9 +1,10 @@
 -- Two results that a promise allows for one input are equal: a theorem for each promise.
 -- Assumes nothing.
 use mathlib.Core.Path.{_≡_, refl, sym, _∙_, ap, subst}
-use mathlib.Core.Bool.{Bool, true, false}
+use mathlib.Core.Bool.{Bool}
 use Prim.Native.Nat.{ℕ}
 use lib.IntN.{ℤ}
+use Rattle.whole.specs.One.{whether-one}
 use Rattle.days.specs.DayByDay.{Label, label, Timeline, labelsIn, Rises}
 use Rattle.days.specs.RisingLabels.{once, place-one, nth-one}
 use Rattle.days.specs.AcceptedCalendars.{accepted-rises}
@@ -15,8 +16,8 @@ use Rattle.calendar.specs.declared.Date.{Date}
 use Rattle.calendar.specs.declared.Switch.the-variants as Switch′
 use Rattle.calendar.specs.declared.Dated.the-variants as Dated′
 use Rattle.calendar.specs.declared.ReformDate.the-variants as ReformDate′
-use Rattle.calendar.specs.Calendars.{timeline, IsRecordIn}
-use Rattle.calendar.specs.Rows.{One, unless-one, if-one, answers-one}
+use Rattle.calendar.specs.Calendars.{timeline, IsRecordIn, Genuine}
+use Rattle.calendar.specs.RowLaws.{One, unless-one, if-one, answers-one}
 use Rattle.calendar.specs.Promise.{outcomeIs, Reforms, judged, RecordOfIn, record-of, AtJdn, GivenIn, Given, OnLabelIn, on-label, YmdIn, AtYmd, OnOrdinalIn, on-ordinal, OrdinalIn, AtOrdinal, TellsCalendar, ReformationOf, reformDay, ReformRecord, never-julian, never-gregorian, reform-record, LastJulian, FirstGregorian, IsGenuine, TellsDate, CountsDate, Next, ConvertsTo}
 use Rattle.calendar.specs.Natural.{SwitchIs, switches-at, no-calendar}
 
@@ -105,10 +106,7 @@ first-gregorian-one c = unless-one (λ a. reform-record-one _ c)
 
 -- ---- Of a date
 pub is-genuine-one : (d : Date) → One (IsGenuine d)
-is-genuine-one d true true p q = refl
-is-genuine-one d true false p q = absurd (q p)
-is-genuine-one d false true p q = absurd (p q)
-is-genuine-one d false false p q = refl
+is-genuine-one d = whether-one (Genuine d)
 
 pub tells-date-one : (d : Date) (b : Bool) → One (TellsDate d b)
 tells-date-one d b = unless-one (λ g. answers-one _)

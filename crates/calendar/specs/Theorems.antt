@@ -15,8 +15,10 @@ use Rattle.calendar.specs.declared.Calendar.{Calendar}
 use Rattle.calendar.specs.declared.Date.{Date}
 use Rattle.calendar.specs.declared.Dated.{Dated}
 use Rattle.calendar.specs.declared.Dated.the-variants as Dated′
+use Rattle.refusals.specs.declared.Refusal.{Refusal}
 use Rattle.calendar.specs.Calendars.{timeline, labels, Accepted, IsRecordIn, IsRecord, Genuine}
-use Rattle.calendar.specs.Rows.{refuses, passes, passed}
+use Rattle.calendar.specs.Rows.{refuses, passes}
+use Rattle.calendar.specs.RowLaws.{passed}
 use Rattle.calendar.specs.Promise.{record-of, AtJdn, GivenIn, on-label, YmdIn, AtYmd, on-ordinal, OrdinalIn, AtOrdinal, Next}
 use Rattle.calendar.specs.One.{record-one, at-jdn-one}
 
@@ -102,11 +104,15 @@ pub given-genuine : (d : Date) → AtJdn (d .calendar) (d .jdn) (Dated′.Date d
 given-genuine d (passes x (record-of i)) = record { accepted = x; is-record = i }
 
 -- every record that is given is genuine
-pub record-genuine : (c : Calendar) {n : ℤ} {t : Date} → Accepted c → IsRecord c n t → Genuine t
-record-genuine c {n} {t} acc i = record {
+pub record-genuine : {c : Calendar} {n : ℤ} {t : Date} → Accepted c → IsRecord c n t → Genuine t
+record-genuine {c} {t = t} acc i = record {
   accepted = subst Accepted (sym (i .calendar-is)) acc;
   is-record = subst (λ (k : Calendar). IsRecord k (t .jdn) t) (sym (i .calendar-is)) (subst (λ (j : ℤ). IsRecord c j t) (sym (i .day-is)) i);
 }
+
+-- an accepted calendar refuses no day
+pub never-refused : {c : Calendar} {n : ℤ} {f : Refusal} → Accepted c → AtJdn c n (Dated′.Refused f) → ⊥
+never-refused a (refuses x) = x a
 
 -- ---- at_jdn after at_ymd gives the same record, and the other way round
 pub jdn-after-ymd : (c : Calendar) → Accepted c → {y : ℤ} {m d : ℕ} {t : Date} {a : Dated} → AtYmd c y m d (Dated′.Date t) → AtJdn c (t .jdn) a → a ≡ Dated′.Date t

@@ -1,9 +1,10 @@
-// Calendars and dates: the Julian calendar, the Gregorian one, and those that change from the one to the other on a day.
-// Every call answers or refuses for all numbers and records, made-up ones included.
+// Calendars and dates: the Julian calendar, the Gregorian calendar, and those that switch from one to the other on some day.
+// Every call answers or refuses, for all numbers and records, made-up ones included.
+// For users: all but `switch_of`, `next_in_month` and `refusal_of`, which are for the crates above.
 
 ghost use mathlib.Core.Path.{_≡_};
 ghost use lib.IntN.{pos, sucℤ, predℤ};
-ghost use Rattle.ways.specs.Ways.{toward};
+ghost use Rattle.ways.specs.Promise.{toward};
 ghost use Rattle.days.specs.DayByDay.{weekday, JulianStyle, GregorianStyle};
 ghost use mathlib.Core.Bool.{not};
 ghost use Prim.Native.Nat.{_-_, _≤_};

@@ -1,4 +1,4 @@
-// The record of a day, and the day of a label: arithmetic on days and years that are biased as naturals.
+// The record of a day, and the day of a label, computed on days and years that are biased as naturals.
 
 ghost use mathlib.Core.Path.{_≡_};
 ghost use Prim.Native.Nat.{_+_, _-_, _≤_, _<_};

@@ -1,5 +1,6 @@
--- The columns of the listing. A reader's file is `Columns`: the numbers that stand in the line of an answer, and the header over them. `One` shows that each
--- promise allows one result, and `Laws` has why the functions meet theirs.
+-- The columns of the listing. A reader's files are `Columns`, the numbers that stand in the line of an answer and the header over them, and `Promise`. `One` shows
+-- that each promise allows one result, and `Laws` has why the functions meet theirs.
 pub mod Columns
+pub mod Promise
 pub mod Laws
 pub mod One

@@ -2,8 +2,8 @@
 // For the crates above; `listing` passes `put_header` on to users.
 
 ghost use mathlib.Core.Path.{_≡_};
-ghost use Rattle.writer.specs.Promise.{Writes};
-ghost use Rattle.columns.specs.Columns.{header, numbersOf, lineOf};
+ghost use Rattle.columns.specs.Columns.{numbersOf, lineOf};
+ghost use Rattle.columns.specs.Promise.{PutsHeader};
 use calendar::Date;
 use calendar::Dated;
 use linetext::Line;
@@ -42,7 +42,7 @@ const HEADER: [u8; 35] = *b"jdn\tyear\tordinal\tmonth\tday\tweekday\n";
 
 // The header, from `at` on.
 pub fn put_header(out: &mut [u8], at: usize) -> Written
-    ensures { λ r. ⌜ Writes (λ t. t ≡ header) (now (out .entry)) at (now (out .exit)) r ⌝ }
+    ensures { λ r. ⌜ PutsHeader (now (out .entry)) at (now (out .exit)) r ⌝ }
 {
     match buffer::copy_text(out, at, &HEADER) {
         Copied::To(end) => Written::Done(end),

@@ -9,9 +9,9 @@ use Rattle.refusals.specs.declared.Refusal.{Refusal}
 use Rattle.calendar.specs.declared.Dated.{Dated}
 use Rattle.calendar.specs.declared.Dated.the-variants as Dated′
 use Rattle.calendar.specs.Calendars.{Accepted}
-use Rattle.calendar.specs.Rows.{passed}
+use Rattle.calendar.specs.RowLaws.{passed}
 use Rattle.calendar.specs.Promise.{AtYmd, AtOrdinal}
-use Rattle.datetext.specs.Grammar.{ReadDate}
+use Rattle.datetext.specs.Promise.{ReadDate}
 use Rattle.datetext.specs.declared.Text.{Text}
 use Rattle.dateparse.specs.Promise.{placedAt, ByText, by-fault, by-ordinal, by-ymd}
 

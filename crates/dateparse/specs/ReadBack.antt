@@ -10,11 +10,12 @@ use mir.Syntax.{w32}
 use mir.Val.{SFits}
 use Rattle.numbertext.specs.Numerals.{Unsigned, Signed}
 use Rattle.writer.specs.Promise.{Decimal, WholeDecimal, YmdDecimal, WriteYmd}
-use Rattle.writer.specs.Laws.{has-width}
-use Rattle.writer.specs.Laws.{ymd-text}
+use Rattle.writer.specs.Laws.{has-width, ymd-text}
 use Rattle.writer.specs.Theorems.{written-front}
 use Rattle.writer.specs.declared.Written.{Written}
-use Rattle.datetext.specs.Grammar.{Month, YmdText, ReadDate}
+use Rattle.datetext.specs.Grammar.{YmdText}
+use Rattle.days.specs.DayByDay.{Month}
+use Rattle.datetext.specs.Promise.{ReadDate}
 use Rattle.datetext.specs.One.{read-one}
 use Rattle.datetext.specs.Theorems.{Belongs}
 use Rattle.datetext.specs.declared.Text.{Text}
@@ -44,7 +45,7 @@ module _ {t : List ℕ} {y : ℤ} {m d : ℕ} (w : YmdDecimal t y m d) (f : SFit
   written-writes = by w
     where
       by : {s : List ℕ} → YmdDecimal s y m d → (k : ℕ) × YmdText s y m d k
-      by (YmdDecimal.ymd-decimal a b c) = (_, YmdText.ymd (signed-text a f) (unsigned-text b (omega (arith, mo .last))) mo (unsigned-text c h))
+      by (YmdDecimal.ymd-decimal a b c) = (_, YmdText.ymd (signed-text a f) (unsigned-text b (omega (arith, mo .1))) mo (unsigned-text c h))
 
   pub written-belongs : Belongs t
   written-belongs = Belongs.by-day (written-writes .1)

@@ -8,7 +8,7 @@ use native.Mathlib.Omega.{arith}
 use lib.IntN.{ℤ, pos, negsuc}
 use lib.Signed.{_≤ℤ_}
 use lib.ListN.{length, take}
-use Rattle.days.specs.DayByDay.{Label, label, Timeline, labelsIn, Rises, OfYear, Place, Is32Bit, Rising}
+use Rattle.days.specs.DayByDay.{Label, label, Timeline, labelsIn, Rises, OfYear, Place, Is32Bit, Rising, Month}
 use Rattle.days.specs.RisingLabels.{once, nth-one}
 use Rattle.days.specs.AcceptedCalendars.{accepted-rises}
 use Rattle.days.specs.RisingTimelines.{rising-rises, timeline-proper, timeline-most}
@@ -18,7 +18,8 @@ use Rattle.calendar.specs.declared.Date.{Date}
 use Rattle.calendar.specs.declared.Dated.{Dated}
 use Rattle.calendar.specs.declared.Dated.the-variants as Dated′
 use Rattle.calendar.specs.Calendars.{timeline, Accepted, IsRecordIn, IsRecord, Genuine}
-use Rattle.calendar.specs.Rows.{One, passes, passed, unless-one}
+use Rattle.calendar.specs.Rows.{passes}
+use Rattle.calendar.specs.RowLaws.{One, passed, unless-one}
 use Rattle.calendar.specs.Promise.{YmdIn, OrdinalIn}
 use Rattle.calendar.specs.One.{record-one, ymd-in-one, ordinal-in-one}
 use Rattle.calendar.specs.Theorems.{IsRecordOfIn, ymd-in-accepts, ymd-in-only, ordinal-in-accepts, ordinal-in-only, has-record}
@@ -27,7 +28,7 @@ use Rattle.writer.specs.Promise.{YmdDecimal}
 use Rattle.writer.specs.One.{write-ymd-one}
 use Rattle.writer.specs.Theorems as W
 use Rattle.writer.specs.declared.Written.{Written}
-use Rattle.datetext.specs.Grammar.{Month, OrdinalText, YmdText}
+use Rattle.datetext.specs.Grammar.{OrdinalText, YmdText}
 use Rattle.datetext.specs.Theorems as T
 use Rattle.dateparse.specs.EveryText.{Says, says-ymd, says-ordinal, EveryText}
 use Rattle.dateparse.specs.ReadBack.{signed-fits, has-text, written-writes}
@@ -112,7 +113,7 @@ module _ (t : Timeline) (r : Rising t) (c : Calendar) {n : ℤ} {d : Date} (f : 
   of-day P = subst P (i .label-is)
 
   pub month-is : Month (d .month)
-  month-is = let p = of-day (λ (l : Label). (1 ≤ l .month) × (l .month ≤ 12) × (1 ≤ l .day)) (timeline-proper t n) in record { first = p .0; last = p .1 }
+  month-is = let p = of-day (λ (l : Label). (1 ≤ l .month) × (l .month ≤ 12) × (1 ≤ l .day)) (timeline-proper t n) in (p .0, p .1)
 
   pub day-most : d .day ≤ 31
   day-most = of-day (λ (l : Label). l .day ≤ 31) (timeline-most t n)
@@ -173,7 +174,7 @@ every-calendar c acc =
 
 -- whose texts have at most 14 bytes
 pub fourteen : (c : Calendar) → Accepted c → {n : ℤ} {d : Date} → Is32Bit n → IsRecord c n d → {u : List ℕ} → YmdDecimal u (d .year) (d .month) (d .day) → length u ≤ 14
-fourteen c acc {n} {d} f i w = W.fourteen w (year-short from to) (month-is (timeline c) (accepted-rising acc) c f i .last) (day-most (timeline c) (accepted-rising acc) c f i)
+fourteen c acc {n} {d} f i w = W.fourteen w (year-short from to) (month-is (timeline c) (accepted-rising acc) c f i .1) (day-most (timeline c) (accepted-rising acc) c f i)
   where
     from : negsuc 5_884_322 ≤ℤ (d .year)
     from = of-day (timeline c) (accepted-rising acc) c f i (λ (l : Label). negsuc 5_884_322 ≤ℤ (l .year)) (year-from acc f)

@@ -2,19 +2,15 @@
 -- (the second number is a month 1 to 12, the third a day). A year is a signed number of 32 bits, the others are unsigned ones, and leading zeros
 -- are free: `numbertext` has the numbers. Nothing here reads: each rule says of what parts a text is put together.
 -- Assumes nothing.
-use Prim.Native.Nat.{ℕ, _+_, _≤_}
+use Prim.Native.Nat.{ℕ, _+_}
 use mathlib.Core.List.{List, _∷_, _++_}
 use lib.ListN.{length}
 use lib.IntN.{ℤ, pos}
 use Rattle.refusals.specs.declared.Refusal.{Refusal}
-use Rattle.refusals.specs.Refusals.{refusal}
+use Rattle.refusals.specs.Promise.{refusal}
 use Rattle.digits.specs.Numerals.{dash, Stops}
 use Rattle.numbertext.specs.Numerals.{Unsigned, Signed, NoNumber, NoSigned, NoDash}
-use Rattle.datetext.specs.declared.Text.{Text}
-
-pub record Month (m : ℕ) : Type 0 where
-  pub first : 1 ≤ m
-  pub last : m ≤ 12
+use Rattle.days.specs.DayByDay.{Month}
 
 -- YEAR-ORDINAL: the year y and the ordinal n, whose field has the place k
 pub data OrdinalText : List ℕ → ℤ → ℕ → ℕ → Type 0 where
@@ -40,9 +36,3 @@ pub data Fault : List ℕ → Refusal → Type 0 where
       → NoNumber (length p + 1 + length q + 1) u f → Fault (p ++ (dash ∷ (q ++ (dash ∷ u)))) f
   left-over : {p q t u : List ℕ} {y : ℤ} {m d b : ℕ} → Signed p y → Unsigned q m → Month m → Unsigned t d → Stops (b ∷ u)
       → Fault (p ++ (dash ∷ (q ++ (dash ∷ (t ++ (b ∷ u)))))) (refusal 14 (length p + 1 + length q + 1 + length t) (pos b))
-
--- what a reader answers: the date that the text writes, or the text's first fault
-pub data ReadDate (s : List ℕ) : Text → Type 0 where
-  ordinal-text : {y : ℤ} {n k : ℕ} → OrdinalText s y n k → ReadDate s (Text.Ordinal y n k)
-  ymd-text : {y : ℤ} {m d k : ℕ} → YmdText s y m d k → ReadDate s (Text.Ymd y m d k)
-  faulty : {f : Refusal} → Fault s f → ReadDate s (Text.Refused f)

@@ -4,12 +4,12 @@ use Prim.Native.Nat.{ℕ}
 use mathlib.Core.Path.{refl}
 use mathlib.Core.List.{List, [], _∷_}
 use lib.IntN.{pos}
-use Rattle.whole.specs.Edge.{signedOf}
-use Rattle.refusals.specs.Refusals.{refusal}
+use Rattle.whole.specs.Promise.{signedOf}
+use Rattle.refusals.specs.Promise.{refusal}
 use Rattle.digits.specs.Numerals.{plus, dash}
-use Rattle.digits.specs.Reading.{runFrom}
+use Rattle.digits.specs.Promise.{runFrom}
 use Rattle.numbertext.specs.Reading.{placed, readNumber, signedRun, readSigned, readDash, readEnd}
-use Rattle.datetext.specs.Grammar.{ReadDate}
+use Rattle.datetext.specs.Promise.{ReadDate}
 use Rattle.datetext.specs.Reading.{readText}
 use Rattle.datetext.specs.Laws.{read-meant}
 use Rattle.datetext.specs.declared.Text.{Text}

@@ -13,9 +13,9 @@ use lib.IntN.{ℤ, pos}
 use lib.Dec.{leb}
 use borrow.Author.Tests.{lt-ltb, le-ltb, le-leb, leb-true}
 use Rattle.refusals.specs.declared.Refusal.{Refusal}
-use Rattle.refusals.specs.Refusals.{refusal}
+use Rattle.refusals.specs.Promise.{refusal}
 use Rattle.digits.specs.Numerals.{dash, Stops}
-use Rattle.digits.specs.Reading.{pick}
+use Rattle.digits.specs.Promise.{pick}
 use Rattle.digits.specs.Runs.{pick-yes, pick-no, both}
 use Rattle.numbertext.specs.Numerals.{Unsigned, Signed, NoNumber, NoDash}
 use Rattle.numbertext.specs.Promise.{NumberFrom, SignedFrom, DashFrom, EndFrom}
@@ -26,35 +26,37 @@ use Rattle.numbertext.specs.declared.Number.{Number}
 use Rattle.numbertext.specs.declared.SignedNumber.{SignedNumber}
 use Rattle.numbertext.specs.declared.Dash.{Dash}
 use Rattle.numbertext.specs.declared.End.{End}
-use Rattle.datetext.specs.Grammar.{Month, OrdinalText, YmdText, Fault, ReadDate}
+use Rattle.datetext.specs.Grammar.{OrdinalText, YmdText, Fault}
+use Rattle.days.specs.DayByDay.{Month}
+use Rattle.datetext.specs.Promise.{ReadDate}
 use Rattle.datetext.specs.declared.Text.{Text}
 use Rattle.datetext.specs.Reading.{isMonth, toYmd, afterDay, afterMonth, afterSecond, afterDash, afterYear, readText}
 
--- ---- places: n is a place of s, and v is what s has from there on
+-- ---- n is an offset in s, and v is what s has from there on
 
-record Place (s : List ℕ) (n : ℕ) (v : List ℕ) : Type 0 where
+record Rest (s : List ℕ) (n : ℕ) (v : List ℕ) : Type 0 where
   within : n ≤ length s
   rest : drop n s ≡ v
 
-place-start : (s : List ℕ) → Place s 0 s
-place-start s = record { within = omega arith; rest = refl }
+rest-start : (s : List ℕ) → Rest s 0 s
+rest-start s = record { within = omega arith; rest = refl }
 
-place-on : {s : List ℕ} {n : ℕ} (p v : List ℕ) → Place s n (p ++ v) → Place s (n + length p) v
-place-on {s} {n} p v a =
+rest-on : {s : List ℕ} {n : ℕ} (p v : List ℕ) → Rest s n (p ++ v) → Rest s (n + length p) v
+rest-on {s} {n} p v a =
     record {
       within = omega (arith, length-drop n s, ap length (a .rest), length-append p v, a .within);
       rest = sym (drop-drop (length p) n s) ∙ ap (drop (length p)) (a .rest) ∙ drop-append-seam p v;
     }
 
-place-end : {s : List ℕ} {n : ℕ} → Place s n [] → length s ≤ n
-place-end {s} {n} a = omega (arith, length-drop n s, ap length (a .rest))
+rest-end : {s : List ℕ} {n : ℕ} → Rest s n [] → length s ≤ n
+rest-end {s} {n} a = omega (arith, length-drop n s, ap length (a .rest))
 
-place-more : {s : List ℕ} {n b : ℕ} {v : List ℕ} → Place s n (b ∷ v) → n < length s
-place-more {s} {n} a = omega (arith, length-drop n s, ap length (a .rest))
+rest-more : {s : List ℕ} {n b : ℕ} {v : List ℕ} → Rest s n (b ∷ v) → n < length s
+rest-more {s} {n} a = omega (arith, length-drop n s, ap length (a .rest))
 
-module _ {A : Type 0} (refuse : Refusal → A) (f : ℕ → List ℕ → A) {s : List ℕ} {n : ℕ} {v : List ℕ} (a : Place s n v) where
-  at-place : placed refuse f s n ≡ f n v
-  at-place = placed-in refuse f s n (a .within) ∙ ap (f n) (a .rest)
+module _ {A : Type 0} (refuse : Refusal → A) (f : ℕ → List ℕ → A) {s : List ℕ} {n : ℕ} {v : List ℕ} (a : Rest s n v) where
+  at-rest : placed refuse f s n ≡ f n v
+  at-rest = placed-in refuse f s n (a .within) ∙ ap (f n) (a .rest)
 
 -- ---- small facts
 
@@ -62,10 +64,10 @@ dash-stops : (u : List ℕ) → Stops (dash ∷ u)
 dash-stops u = Stops.other {b = dash} (λ d. omega (arith, d .low))
 
 month-is : (m : ℕ) → isMonth m ≡ true → Month m
-month-is m e = let h = both (leb 1 m) (leb m 12) e in record { first = leb-true 1 m (h .0); last = leb-true m 12 (h .1) }
+month-is m e = let h = both (leb 1 m) (leb m 12) e in (leb-true 1 m (h .0), leb-true m 12 (h .1))
 
 is-month : {m : ℕ} → Month m → isMonth m ≡ true
-is-month {m} h = simp (le-leb 1 m (h .first), le-leb m 12 (h .last))
+is-month {m} h = simp (le-leb 1 m (h .0), le-leb m 12 (h .1))
 
 month-not : (m : ℕ) → isMonth m ≡ false → Month m → ⊥
 month-not m e h = let f : isMonth m ≡ true = is-month h in let z : _≡_ {A = ℕ} 0 1 = cc in omega arith
@@ -93,41 +95,41 @@ end-right {s} {p} {q} {t} {k = k} {n = n} e yr fq mo ft st ek en (EndFrom.left-o
 
 -- s is p, a dash, q, a dash and w, and the day's number is to stand at n
 day-right : {s p q w : List ℕ} {y : ℤ} {m n : ℕ} → s ≡ p ++ (dash ∷ (q ++ (dash ∷ w))) → Signed p y → Unsigned q m → Month m
-    → n ≡ length p + 1 + length q + 1 → Place s n w → {x : Number} → NumberFrom n w x → ReadDate s (afterDay s y m n x)
+    → n ≡ length p + 1 + length q + 1 → Rest s n w → {x : Number} → NumberFrom n w x → ReadDate s (afterDay s y m n x)
 day-right {s} {p} {q} {y = y} {m = m} {n = n} e yr fq mo en a (NumberFrom.number {p = t} {u = v} {n = d} ft st) =
-    subst (λ (x : End). ReadDate s (toYmd y m d n x)) (sym (at-place End.Refused readEnd (place-on t v a)))
+    subst (λ (x : End). ReadDate s (toYmd y m d n x)) (sym (at-rest End.Refused readEnd (rest-on t v a)))
     (end-right e yr fq mo ft st en refl (end-sound (n + length t) v))
 day-right {w = w} e yr fq mo en a (NumberFrom.no-number {f = f} h) =
     ReadDate.faulty (subst (λ (x : List ℕ). Fault x f) (sym e) (Fault.at-third yr fq mo (subst (λ (k : ℕ). NoNumber k w f) en h)))
 
 -- s is p, a dash, q and v, with a byte at least in v, and the dash is to stand at n
 month-right : {s p q v : List ℕ} {y : ℤ} {m n b : ℕ} → s ≡ p ++ (dash ∷ (q ++ (b ∷ v))) → Signed p y → Unsigned q m → Month m → Stops (b ∷ v)
-    → n ≡ length p + 1 + length q → Place s n (b ∷ v) → {x : Dash} → DashFrom n (b ∷ v) x → ReadDate s (afterMonth s y m x)
+    → n ≡ length p + 1 + length q → Rest s n (b ∷ v) → {x : Dash} → DashFrom n (b ∷ v) x → ReadDate s (afterMonth s y m x)
 month-right {s} {p} {q} {v} {y} {m} {n} {b} e yr fq mo st en a (DashFrom.a-dash) =
-    let a′ : Place s (n + 1) v = place-on (dash ∷ []) v a in
-    subst (λ (x : Number). ReadDate s (afterDay s y m (n + 1) x)) (sym (at-place Number.Refused readNumber a′))
+    let a′ : Rest s (n + 1) v = rest-on (dash ∷ []) v a in
+    subst (λ (x : Number). ReadDate s (afterDay s y m (n + 1) x)) (sym (at-rest Number.Refused readNumber a′))
     (day-right e yr fq mo (ap (λ (k : ℕ). k + 1) en) a′ (number-sound (n + 1) v))
 month-right {s} {p} {q} {v} {y} {m} {n} {b} e yr fq mo st en a (DashFrom.no-dash {f = f} h) =
     ReadDate.faulty (subst (λ (x : List ℕ). Fault x f) (sym e) (Fault.at-second-dash yr fq mo st (subst (λ (k : ℕ). NoDash k (b ∷ v) f) en h)))
 
 -- s is p, a dash and w, and the second number is to stand at n
-second-right : {s p w : List ℕ} {y : ℤ} {n : ℕ} → s ≡ p ++ (dash ∷ w) → Signed p y → n ≡ length p + 1 → Place s n w → {x : Number} → NumberFrom n w x
+second-right : {s p w : List ℕ} {y : ℤ} {n : ℕ} → s ≡ p ++ (dash ∷ w) → Signed p y → n ≡ length p + 1 → Rest s n w → {x : Number} → NumberFrom n w x
     → ReadDate s (afterSecond s y n x)
 second-right {w = w} e yr en a (NumberFrom.no-number {f = f} h) =
     ReadDate.faulty (subst (λ (x : List ℕ). Fault x f) (sym e) (Fault.at-second yr (subst (λ (k : ℕ). NoNumber k w f) en h)))
-second-right {s} {p} {y = y} {n = n} e yr en a (NumberFrom.number {p = q} {u = v₀} {n = m} fq st₀) = go v₀ st₀ (place-on q v₀ a) e
+second-right {s} {p} {y = y} {n = n} e yr en a (NumberFrom.number {p = q} {u = v₀} {n = m} fq st₀) = go v₀ st₀ (rest-on q v₀ a) e
   where
-    go : (v : List ℕ) → Stops v → Place s (n + length q) v → s ≡ p ++ (dash ∷ (q ++ v)) → ReadDate s (afterSecond s y n (Number.Value m (n + length q)))
+    go : (v : List ℕ) → Stops v → Rest s (n + length q) v → s ≡ p ++ (dash ∷ (q ++ v)) → ReadDate s (afterSecond s y n (Number.Value m (n + length q)))
     go [] st b e′ =
-        subst (ReadDate s) (sym (pick-no _ _ (le-ltb _ _ (place-end b))))
+        subst (ReadDate s) (sym (pick-no _ _ (le-ltb _ _ (rest-end b))))
         (ReadDate.ordinal-text
         (subst (λ (x : List ℕ). OrdinalText x y m n) (sym (e′ ∙ ap (λ (x : List ℕ). p ++ (dash ∷ x)) (append-nil q)))
         (subst (OrdinalText (p ++ (dash ∷ q)) y m) (sym en) (OrdinalText.ordinal yr fq))))
-    go (x ∷ v) st b e′ = subst (ReadDate s) (sym (pick-yes _ _ (lt-ltb _ _ (place-more b)))) (goes (isMonth m) refl)
+    go (x ∷ v) st b e′ = subst (ReadDate s) (sym (pick-yes _ _ (lt-ltb _ _ (rest-more b)))) (goes (isMonth m) refl)
       where
         goes : (t : Bool) → isMonth m ≡ t → ReadDate s (pick t (afterMonth s y m (theDash s (n + length q))) (Text.Refused (refusal 3 n (pos m))))
         goes true h =
-            subst (λ (z : Dash). ReadDate s (afterMonth s y m z)) (sym (at-place Dash.Refused readDash b))
+            subst (λ (z : Dash). ReadDate s (afterMonth s y m z)) (sym (at-rest Dash.Refused readDash b))
             (month-right e′ yr fq (month-is m h) st (ap (λ (k : ℕ). k + length q) en) b (dash-sound (n + length q) (x ∷ v)))
         goes false h =
             ReadDate.faulty
@@ -135,11 +137,11 @@ second-right {s} {p} {y = y} {n = n} e yr en a (NumberFrom.number {p = q} {u = v
             (subst (λ (i : ℕ). Fault (p ++ (dash ∷ (q ++ (x ∷ v)))) (refusal 3 i (pos m))) (sym en) (Fault.at-month yr fq st (month-not m h))))
 
 -- s is p and v, and the first dash is to stand at n
-dash-right : {s p v : List ℕ} {y : ℤ} {n : ℕ} → s ≡ p ++ v → Signed p y → Stops v → n ≡ length p → Place s n v → {x : Dash} → DashFrom n v x
+dash-right : {s p v : List ℕ} {y : ℤ} {n : ℕ} → s ≡ p ++ v → Signed p y → Stops v → n ≡ length p → Rest s n v → {x : Dash} → DashFrom n v x
     → ReadDate s (afterDash s y x)
 dash-right {s} {p} {y = y} {n = n} e yr st en a (DashFrom.a-dash {u = w}) =
-    let a′ : Place s (n + 1) w = place-on (dash ∷ []) w a in
-    subst (λ (x : Number). ReadDate s (afterSecond s y (n + 1) x)) (sym (at-place Number.Refused readNumber a′))
+    let a′ : Rest s (n + 1) w = rest-on (dash ∷ []) w a in
+    subst (λ (x : Number). ReadDate s (afterSecond s y (n + 1) x)) (sym (at-rest Number.Refused readNumber a′))
     (second-right e yr (ap (λ (k : ℕ). k + 1) en) a′ (number-sound (n + 1) w))
 dash-right {s} {p} {v} {y} {n} e yr st en a (DashFrom.no-dash {f = f} h) =
     ReadDate.faulty (subst (λ (x : List ℕ). Fault x f) (sym e) (Fault.at-dash yr st (subst (λ (k : ℕ). NoDash k v f) en h)))
@@ -147,39 +149,39 @@ dash-right {s} {p} {v} {y} {n} e yr st en a (DashFrom.no-dash {f = f} h) =
 year-right : {s : List ℕ} {x : SignedNumber} → SignedFrom 0 s x → ReadDate s (afterYear s x)
 year-right (SignedFrom.no-number h) = ReadDate.faulty (Fault.at-year h)
 year-right (SignedFrom.number {p} {u = v} {y} yr st) =
-    let a : Place (p ++ v) (0 + length p) v = place-on p v (place-start (p ++ v)) in
-    subst (λ (x : Dash). ReadDate (p ++ v) (afterDash (p ++ v) y x)) (sym (at-place Dash.Refused readDash a))
+    let a : Rest (p ++ v) (0 + length p) v = rest-on p v (rest-start (p ++ v)) in
+    subst (λ (x : Dash). ReadDate (p ++ v) (afterDash (p ++ v) y x)) (sym (at-rest Dash.Refused readDash a))
     (dash-right refl yr st (zero-add (length p)) a (dash-sound (0 + length p) v))
 
 pub sound : (s : List ℕ) → ReadDate s (readText s)
 unfolding readText
-sound s = subst (λ (x : SignedNumber). ReadDate s (afterYear s x)) (sym (at-place SignedNumber.Refused readSigned (place-start s))) (year-right (signed-sound 0 s))
+sound s = subst (λ (x : SignedNumber). ReadDate s (afterYear s x)) (sym (at-rest SignedNumber.Refused readSigned (rest-start s))) (year-right (signed-sound 0 s))
 
 -- ---- a right answer is the computed one
 
 module _ {p : List ℕ} {y : ℤ} (yr : Signed p y) where
-  place-dash : (v : List ℕ) → Place (p ++ v) (length p) v
-  place-dash v = subst (λ (k : ℕ). Place (p ++ v) k v) (zero-add (length p)) (place-on p v (place-start (p ++ v)))
+  rest-dash : (v : List ℕ) → Rest (p ++ v) (length p) v
+  rest-dash v = subst (λ (k : ℕ). Rest (p ++ v) k v) (zero-add (length p)) (rest-on p v (rest-start (p ++ v)))
 
   through-year : (v : List ℕ) → Stops v → readText (p ++ v) ≡ afterDash (p ++ v) y (readDash (length p) v)
   unfolding readText
   through-year v st =
       ap (afterYear (p ++ v))
-      (at-place SignedNumber.Refused readSigned (place-start (p ++ v)) ∙ signed-complete (SignedFrom.number yr st) ∙ ap (SignedNumber.Value y) (zero-add (length p)))
-      ∙ ap (afterDash (p ++ v) y) (at-place Dash.Refused readDash (place-dash v))
+      (at-rest SignedNumber.Refused readSigned (rest-start (p ++ v)) ∙ signed-complete (SignedFrom.number yr st) ∙ ap (SignedNumber.Value y) (zero-add (length p)))
+      ∙ ap (afterDash (p ++ v) y) (at-rest Dash.Refused readDash (rest-dash v))
 
-  place-second : (w : List ℕ) → Place (p ++ (dash ∷ w)) (length p + 1) w
-  place-second w = place-on (dash ∷ []) w (place-dash (dash ∷ w))
+  rest-second : (w : List ℕ) → Rest (p ++ (dash ∷ w)) (length p + 1) w
+  rest-second w = rest-on (dash ∷ []) w (rest-dash (dash ∷ w))
 
   through-dash : (w : List ℕ) → readText (p ++ (dash ∷ w)) ≡ afterSecond (p ++ (dash ∷ w)) y (length p + 1) (readNumber (length p + 1) w)
   through-dash w =
       through-year (dash ∷ w) (dash-stops w)
       ∙ ap (afterDash (p ++ (dash ∷ w)) y) (dash-complete DashFrom.a-dash)
-      ∙ ap (afterSecond (p ++ (dash ∷ w)) y (length p + 1)) (at-place Number.Refused readNumber (place-second w))
+      ∙ ap (afterSecond (p ++ (dash ∷ w)) y (length p + 1)) (at-rest Number.Refused readNumber (rest-second w))
 
   module _ {q : List ℕ} {m : ℕ} (fq : Unsigned q m) where
-    place-dash₂ : (v : List ℕ) → Place (p ++ (dash ∷ (q ++ v))) (length p + 1 + length q) v
-    place-dash₂ v = place-on q v (place-second (q ++ v))
+    rest-dash₂ : (v : List ℕ) → Rest (p ++ (dash ∷ (q ++ v))) (length p + 1 + length q) v
+    rest-dash₂ v = rest-on q v (rest-second (q ++ v))
 
     through-second : (v : List ℕ) → Stops v
         → readText (p ++ (dash ∷ (q ++ v))) ≡ afterSecond (p ++ (dash ∷ (q ++ v))) y (length p + 1) (Number.Value m (length p + 1 + length q))
@@ -189,38 +191,38 @@ module _ {p : List ℕ} {y : ℤ} (yr : Signed p y) where
     ordinal-read : readText (p ++ (dash ∷ q)) ≡ Text.Ordinal y m (length p + 1)
     ordinal-read =
         subst (λ (x : List ℕ). readText (p ++ (dash ∷ x)) ≡ Text.Ordinal y m (length p + 1)) (append-nil q)
-        (through-second [] Stops.ended ∙ pick-no _ _ (le-ltb _ _ (place-end (place-dash₂ []))))
+        (through-second [] Stops.ended ∙ pick-no _ _ (le-ltb _ _ (rest-end (rest-dash₂ []))))
 
     goes-on : (b : ℕ) (v : List ℕ) → Stops (b ∷ v)
         → readText (p ++ (dash ∷ (q ++ (b ∷ v)))) ≡ pick (isMonth m) (afterMonth (p ++ (dash ∷ (q ++ (b ∷ v)))) y m (theDash (p ++ (dash ∷ (q ++ (b ∷ v)))) (length p + 1 + length q))) (Text.Refused (refusal 3 (length p + 1) (pos m)))
-    goes-on b v st = through-second (b ∷ v) st ∙ pick-yes _ _ (lt-ltb _ _ (place-more (place-dash₂ (b ∷ v))))
+    goes-on b v st = through-second (b ∷ v) st ∙ pick-yes _ _ (lt-ltb _ _ (rest-more (rest-dash₂ (b ∷ v))))
 
     module _ (mo : Month m) where
       through-month : (b : ℕ) (v : List ℕ) → Stops (b ∷ v)
           → readText (p ++ (dash ∷ (q ++ (b ∷ v)))) ≡ afterMonth (p ++ (dash ∷ (q ++ (b ∷ v)))) y m (readDash (length p + 1 + length q) (b ∷ v))
       through-month b v st =
-          goes-on b v st ∙ pick-yes _ _ (is-month mo) ∙ ap (afterMonth (p ++ (dash ∷ (q ++ (b ∷ v)))) y m) (at-place Dash.Refused readDash (place-dash₂ (b ∷ v)))
+          goes-on b v st ∙ pick-yes _ _ (is-month mo) ∙ ap (afterMonth (p ++ (dash ∷ (q ++ (b ∷ v)))) y m) (at-rest Dash.Refused readDash (rest-dash₂ (b ∷ v)))
 
-      place-day : (w : List ℕ) → Place (p ++ (dash ∷ (q ++ (dash ∷ w)))) (length p + 1 + length q + 1) w
-      place-day w = place-on (dash ∷ []) w (place-dash₂ (dash ∷ w))
+      rest-day : (w : List ℕ) → Rest (p ++ (dash ∷ (q ++ (dash ∷ w)))) (length p + 1 + length q + 1) w
+      rest-day w = rest-on (dash ∷ []) w (rest-dash₂ (dash ∷ w))
 
       through-dash₂ : (w : List ℕ)
           → readText (p ++ (dash ∷ (q ++ (dash ∷ w)))) ≡ afterDay (p ++ (dash ∷ (q ++ (dash ∷ w)))) y m (length p + 1 + length q + 1) (readNumber (length p + 1 + length q + 1) w)
       through-dash₂ w =
           through-month dash w (dash-stops w)
           ∙ ap (afterMonth (p ++ (dash ∷ (q ++ (dash ∷ w)))) y m) (dash-complete DashFrom.a-dash)
-          ∙ ap (afterDay (p ++ (dash ∷ (q ++ (dash ∷ w)))) y m (length p + 1 + length q + 1)) (at-place Number.Refused readNumber (place-day w))
+          ∙ ap (afterDay (p ++ (dash ∷ (q ++ (dash ∷ w)))) y m (length p + 1 + length q + 1)) (at-rest Number.Refused readNumber (rest-day w))
 
       module _ {t : List ℕ} {d : ℕ} (ft : Unsigned t d) where
-        place-over : (v : List ℕ) → Place (p ++ (dash ∷ (q ++ (dash ∷ (t ++ v))))) (length p + 1 + length q + 1 + length t) v
-        place-over v = place-on t v (place-day (t ++ v))
+        rest-over : (v : List ℕ) → Rest (p ++ (dash ∷ (q ++ (dash ∷ (t ++ v))))) (length p + 1 + length q + 1 + length t) v
+        rest-over v = rest-on t v (rest-day (t ++ v))
 
         through-day : (v : List ℕ) → Stops v
             → readText (p ++ (dash ∷ (q ++ (dash ∷ (t ++ v))))) ≡ toYmd y m d (length p + 1 + length q + 1) (readEnd (length p + 1 + length q + 1 + length t) v)
         through-day v st =
             through-dash₂ (t ++ v)
             ∙ ap (afterDay (p ++ (dash ∷ (q ++ (dash ∷ (t ++ v))))) y m (length p + 1 + length q + 1)) (number-complete (NumberFrom.number ft st))
-            ∙ ap (toYmd y m d (length p + 1 + length q + 1)) (at-place End.Refused readEnd (place-over v))
+            ∙ ap (toYmd y m d (length p + 1 + length q + 1)) (at-rest End.Refused readEnd (rest-over v))
 
         ymd-read : readText (p ++ (dash ∷ (q ++ (dash ∷ t)))) ≡ Text.Ymd y m d (length p + 1 + length q + 1)
         ymd-read =
@@ -233,7 +235,7 @@ module _ {p : List ℕ} {y : ℤ} (yr : Signed p y) where
 
 fault-complete : {s : List ℕ} {f : Refusal} → Fault s f → readText s ≡ Text.Refused f
 unfolding readText
-fault-complete {s} (Fault.at-year h) = ap (afterYear s) (at-place SignedNumber.Refused readSigned (place-start s) ∙ signed-complete (SignedFrom.no-number h))
+fault-complete {s} (Fault.at-year h) = ap (afterYear s) (at-rest SignedNumber.Refused readSigned (rest-start s) ∙ signed-complete (SignedFrom.no-number h))
 fault-complete (Fault.at-dash {p} {u} {y} yr st h) = through-year yr u st ∙ ap (afterDash (p ++ u) y) (dash-complete (DashFrom.no-dash h))
 fault-complete (Fault.at-second {p} {u} {y} yr h) =
     through-dash yr u ∙ ap (afterSecond (p ++ (dash ∷ u)) y (length p + 1)) (number-complete (NumberFrom.no-number h))

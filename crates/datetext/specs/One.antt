@@ -3,7 +3,7 @@
 use Prim.Native.Nat.{ℕ}
 use mathlib.Core.Path.{_≡_, sym, _∙_}
 use mathlib.Core.List.{List}
-use Rattle.datetext.specs.Grammar.{ReadDate}
+use Rattle.datetext.specs.Promise.{ReadDate}
 use Rattle.datetext.specs.Laws.{complete}
 use Rattle.datetext.specs.declared.Text.{Text}
 

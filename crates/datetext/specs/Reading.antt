@@ -6,8 +6,8 @@ use mathlib.Core.List.{List}
 use lib.ListN.{length}
 use lib.IntN.{ℤ, pos}
 use lib.Dec.{ltb, leb}
-use Rattle.refusals.specs.Refusals.{refusal}
-use Rattle.digits.specs.Reading.{pick}
+use Rattle.refusals.specs.Promise.{refusal}
+use Rattle.digits.specs.Promise.{pick}
 use Rattle.numbertext.specs.Reading.{theNumber, theSigned, theDash, theEnd}
 use Rattle.numbertext.specs.declared.Number.{Number}
 use Rattle.numbertext.specs.declared.SignedNumber.{SignedNumber}

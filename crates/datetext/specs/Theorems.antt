@@ -8,7 +8,9 @@ use mathlib.Core.Logic.{_⊎_, inl, inr}
 use native.Mathlib.Omega.{arith}
 use lib.IntN.{ℤ}
 use Rattle.refusals.specs.declared.Refusal.{Refusal}
-use Rattle.datetext.specs.Grammar.{Month, OrdinalText, YmdText, Fault, ReadDate}
+use Rattle.datetext.specs.Grammar.{OrdinalText, YmdText, Fault}
+use Rattle.days.specs.DayByDay.{Month}
+use Rattle.datetext.specs.Promise.{ReadDate}
 use Rattle.datetext.specs.Laws.{sound}
 use Rattle.datetext.specs.declared.Text.{Text}
 use Rattle.datetext.specs.One.{read-one}

@@ -10,9 +10,10 @@ use lib.ListN.{length, getD}
 use lib.IntN.{ℤ, pos}
 use lib.Dec.{leb}
 use borrow.Author.Tests.{lt-ltb, leb-true}
-use Rattle.whole.specs.Biased.{unbias, unbias-above}
+use Rattle.whole.specs.Biased.{unbias-above}
+use Rattle.whole.specs.Promise.{unbias}
 use Rattle.digits.specs.Numerals.{dash}
-use Rattle.digits.specs.Reading.{pairOf}
+use Rattle.digits.specs.Promise.{pairOf}
 use Rattle.digits.specs.Runs.{pick-yes, both, front-end}
 use Rattle.digits.specs.Few.{DigitIs, PairIs, pair-seen, digit-front, pair-front, dash-front}
 use Rattle.numbertext.specs.Reading.{theNumber, theSigned}

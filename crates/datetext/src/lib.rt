@@ -5,7 +5,7 @@ mod usual;
 
 ghost use mathlib.Core.Path.{_≡_};
 ghost use Rattle.numbertext.specs.Reading.{theNumber, theDash};
-ghost use Rattle.datetext.specs.Grammar.{ReadDate};
+ghost use Rattle.datetext.specs.Promise.{ReadDate};
 ghost use Rattle.datetext.specs.Reading.{isMonth, afterDay, afterMonth, afterSecond, afterDash};
 use numbertext::Dash;
 use numbertext::End;

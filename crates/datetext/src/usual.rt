@@ -5,7 +5,7 @@ ghost use mathlib.Core.Path.{_≡_};
 ghost use Prim.Native.Nat.{_≤_, _<_};
 ghost use lib.ListN.{length};
 ghost use Rattle.numbertext.specs.Reading.{theNumber};
-ghost use Rattle.datetext.specs.Grammar.{ReadDate};
+ghost use Rattle.datetext.specs.Promise.{ReadDate};
 ghost use Rattle.datetext.specs.Reading.{afterSecond};
 ghost use Rattle.datetext.specs.Usual.{IfAt, Hundreds, YearRead, MonthRead, DayRead};
 use crate::Text;

@@ -2,7 +2,7 @@
 -- biased Julian years is their first day. The bounds are those of 32 bits.
 use Prim.Native.Nat.{ℕ, _≤_, _<_}
 use lib.IntN.{ℤ}
-use Rattle.whole.specs.Biased.{unbias}
+use Rattle.whole.specs.Promise.{unbias}
 
 abbrev pub dayBias : ℕ
 dayBias = 784_366_809_942
@@ -17,7 +17,7 @@ day = unbias dayBias
 abbrev pub year : ℕ → ℤ
 year = unbias yearBias
 
-pub record HeldDay (k : ℕ) : Type 0 where
+pub record BiasedDay (k : ℕ) : Type 0 where
   pub from : 782_219_326_294 ≤ k
   pub to : k < 786_514_293_590
 

@@ -9,7 +9,8 @@ use lib.Dec.{eqb}
 use lib.IntN.{ℤ}
 use Rattle.days.specs.DayByDay.{divides}
 use Rattle.whole.specs.Tests.{lt-or-ge, eq-or-not}
-use Rattle.whole.specs.Biased.{unbias, abs-below, abs-above}
+use Rattle.whole.specs.Biased.{abs-below, abs-above}
+use Rattle.whole.specs.Promise.{unbias}
 use Rattle.days.specs.BiasedDays.{yearBias}
 
 -- two remainders that are 0 together

@@ -5,7 +5,8 @@ use Prim.Native.Nat.{ℕ, _+_, _-_, _<_, _≤_, _^_}
 use native.Mathlib.Omega.{arith}
 use native.Mathlib.Numerals.{add-one}
 use lib.IntN.{ℤ, sucℤ, predℤ, -ℤ-one}
-use Rattle.whole.specs.Biased.{unbias, unbias-suc, unbias-back}
+use Rattle.whole.specs.Biased.{unbias-suc, unbias-back}
+use Rattle.whole.specs.Promise.{unbias}
 use Rattle.whole.specs.Machine.{unbias-more}
 use Rattle.whole.specs.Edge.{unbias-fits, unbias-fits-only}
 use Rattle.days.specs.DayByDay.{Is32Bit}

@@ -13,7 +13,7 @@ use Rattle.days.specs.ReckoningSteps.{Valid, label-anchor}
 use Rattle.days.specs.ClosedYear.{yearLength, dayOfMonth, through}
 use Rattle.days.specs.BiasedDays.{year}
 use Rattle.days.specs.ClosedDivides.{divides-4}
-use Rattle.days.specs.ClosedStarts.{Starts, Spot}
+use Rattle.days.specs.ClosedStarts.{Starts, InYear}
 
 abbrev pub leapAt : ℕ → Bool
 leapAt y = eqb (y % 4) 0
@@ -47,10 +47,10 @@ starts = record {
 }
 
 -- the year and ordinal of a day, by cycles of four years, the first of which has 366 days
-pub in-first : (k : ℕ) → k % 1461 < 366 → Spot leapAt start k (4 * (k / 1461)) (k % 1461 + 1)
+pub in-first : (k : ℕ) → k % 1461 < 366 → InYear leapAt start k (4 * (k / 1461)) (k % 1461 + 1)
 in-first k h = record { from = omega arith; to = omega (arith, length-leap (4 * (k / 1461)) (omega arith)); adds = omega arith }
 
-pub in-later : (k : ℕ) → 366 ≤ k % 1461 → Spot leapAt start k (4 * (k / 1461) + 1 + (k % 1461 - 366) / 365) ((k % 1461 - 366) % 365 + 1)
+pub in-later : (k : ℕ) → 366 ≤ k % 1461 → InYear leapAt start k (4 * (k / 1461) + 1 + (k % 1461 - 366) / 365) ((k % 1461 - 366) % 365 + 1)
 in-later k h = record {
   from = omega arith;
   to = omega (arith, length-common (4 * (k / 1461) + 1 + (k % 1461 - 366) / 365) (omega arith));

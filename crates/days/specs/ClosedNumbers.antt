@@ -42,9 +42,13 @@ before b (suc zero) h k = subst (Before b 1) (first b) (before-first b)
 before b (suc (suc m)) h k = subst₂ (Before b) (add-one (suc m)) (sym (adds b (suc m) (omega arith) (omega arith) (omega arith)))
     (before-next b (suc m) (daysBefore b (suc m)) (monthLength b (suc m)) (omega arith) (omega arith) refl (before b (suc m) (omega arith) (omega arith)))
 
+-- day d of month m is there, in a year that is leap or not
+abbrev pub ThereIn : Bool → ℕ → ℕ → Type 0
+ThereIn leap m d = (1 ≤ m) × (m ≤ 12) × (1 ≤ d) × (d ≤ monthLength leap m)
+
 -- in the year y the day d of the month m is there
 abbrev pub There : (ℕ → Bool) → ℕ → ℕ → ℕ → Type 0
-There leapAt y m d = (1 ≤ m) × (m ≤ 12) × (1 ≤ d) × (d ≤ monthLength (leapAt y) m)
+There leapAt y = ThereIn (leapAt y)
 
 -- its day number
 abbrev pub number : (ℕ → Bool) → (ℕ → ℕ) → ℕ → ℕ → ℕ → ℕ

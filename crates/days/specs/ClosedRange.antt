@@ -5,8 +5,8 @@ use Prim.Native.Nat.{ℕ, _+_, _-_, _*_, _/_, _≤_, _<_}
 use native.Mathlib.Nat.{le-trans}
 use native.Mathlib.Omega.{arith}
 use Rattle.days.specs.ClosedYear.{year-most}
-use Rattle.days.specs.ClosedStarts.{Spot}
-use Rattle.days.specs.BiasedDays.{HeldDay, BiasedYear}
+use Rattle.days.specs.ClosedStarts.{InYear}
+use Rattle.days.specs.BiasedDays.{BiasedDay, BiasedYear}
 use Rattle.days.specs.ClosedJulian as J
 use Rattle.days.specs.ClosedGregorian as G
 
@@ -14,10 +14,10 @@ use Rattle.days.specs.ClosedGregorian as G
 in-range : (y a o k : ℕ) → 365 * y ≤ a → a ≤ 366 * y + 16_106_533 → 1 ≤ o → o ≤ 366 → a + o ≡ k + 1 → 782_219_326_294 ≤ k → k < 786_514_293_590 → BiasedYear y
 in-range y a o k l u f t e g h = record { from = omega arith; to = omega arith }
 
-pub julian-year : {k y o : ℕ} → HeldDay k → Spot J.leapAt J.start k y o → BiasedYear y
+pub julian-year : {k y o : ℕ} → BiasedDay k → InYear J.leapAt J.start k y o → BiasedYear y
 julian-year {k = k} {y} {o} h p = in-range y (J.start y) o k (omega arith) (omega arith) (p .from) (omega (arith, year-most (J.leapAt y))) (p .adds) (h .from) (h .to)
 
-pub gregorian-year : {k y o : ℕ} → HeldDay k → Spot G.leapAt G.start k y o → BiasedYear y
+pub gregorian-year : {k y o : ℕ} → BiasedDay k → InYear G.leapAt G.start k y o → BiasedYear y
 gregorian-year {k = k} {y} {o} h p =
     in-range y (G.start y) o k (low y) (high y) (p .from) (le-trans (p .to) (year-most (G.leapAt y))) (p .adds) (h .from) (h .to)
   where

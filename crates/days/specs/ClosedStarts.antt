@@ -24,13 +24,13 @@ pub record Starts (c : Reckoning) (leapAt : ℕ → Bool) (start : ℕ → ℕ) 
   pub known-label : labelOf c (day (start known + place)) ≡ dayOfYear (leapAt known) (year known) (suc place)
 
 -- year y and ordinal o add up to day k, and the ordinal is within the year
-pub record Spot (leapAt : ℕ → Bool) (start : ℕ → ℕ) (k : ℕ) (y : ℕ) (o : ℕ) : Type 0 where
+pub record InYear (leapAt : ℕ → Bool) (start : ℕ → ℕ) (k : ℕ) (y : ℕ) (o : ℕ) : Type 0 where
   pub from : 1 ≤ o
   pub to : o ≤ yearLength (leapAt y)
   pub adds : start y + o ≡ k + 1
 
 -- a day past year 0 is of a later year
-pub past-zero : {leapAt : ℕ → Bool} {start : ℕ → ℕ} (k y o : ℕ) → Spot leapAt start k y o → start 0 + 366 ≤ k → 1 ≤ y
+pub past-zero : {leapAt : ℕ → Bool} {start : ℕ → ℕ} (k y o : ℕ) → InYear leapAt start k y o → start 0 + 366 ≤ k → 1 ≤ y
 past-zero {leapAt} k zero o p h = omega (arith, year-most (leapAt zero))
 past-zero k (suc y) o p h = omega arith
 
@@ -81,11 +81,11 @@ module _ {c : Reckoning} {leapAt : ℕ → Bool} {start : ℕ → ℕ} (s : Star
   label-at y i h = on (start y) i ∙ ap (after (c .leap) i) (start-right y) ∙ within y i h
 
   -- and the label of the day is that of its ordinal
-  pub label-of : (k y o : ℕ) → Spot leapAt start k y o → labelOf c (day k) ≡ dayOfYear (leapAt y) (year y) o
+  pub label-of : (k y o : ℕ) → InYear leapAt start k y o → labelOf c (day k) ≡ dayOfYear (leapAt y) (year y) o
   label-of k y o p =
       ap (λ (n : ℕ). labelOf c (day n)) (whole k y o p) ∙ label-at y (o - 1) (omega arith) ∙ ap (dayOfYear (leapAt y) (year y)) (one-on o (p .from))
     where
-      whole : (k y o : ℕ) → Spot leapAt start k y o → k ≡ start y + (o - 1)
+      whole : (k y o : ℕ) → InYear leapAt start k y o → k ≡ start y + (o - 1)
       whole k y o p = omega arith
 
       one-on : (o : ℕ) → 1 ≤ o → suc (o - 1) ≡ o

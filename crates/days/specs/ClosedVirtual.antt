@@ -8,7 +8,7 @@ use native.Mathlib.Nat.{le-trans, le-of-eq}
 use native.Mathlib.Omega.{arith}
 use Rattle.whole.specs.Tests.{lt-or-ge, eq-or-not}
 use Rattle.days.specs.ClosedYear.{yearLength, year-some, year-most}
-use Rattle.days.specs.ClosedStarts.{Spot}
+use Rattle.days.specs.ClosedStarts.{InYear}
 use Rattle.days.specs.ClosedJulian as J
 use Rattle.days.specs.ClosedGregorian as G
 
@@ -20,7 +20,7 @@ pub record Virtual (r : ℕ) (n : ℕ) : Type 0 where
 hundredth : (n y : ℕ) → 100 * n + 1 ≤ y → y ≤ 100 * n + 100 → y % 100 ≡ 0 → y ≡ 100 * n + 100
 hundredth n y l u f = omega arith
 
-module _ (r n y o : ℕ) (h : r < 146097) (p : Spot J.leapAt J.start (r + n) y o) (a : 366 ≤ r) (v : n ≡ (r - 366) / 36524) where
+module _ (r n y o : ℕ) (h : r < 146097) (p : InYear J.leapAt J.start (r + n) y o) (a : 366 ≤ r) (v : n ≡ (r - 366) / 36524) where
   n-most : n ≤ 3
   n-most = omega arith
 
@@ -78,23 +78,23 @@ adds-by : (q r n o g g₀ j : ℕ) → g ≡ 146_097 * q + g₀ → g₀ + n ≡
 adds-by q r n o g g₀ j a b c = omega arith
 
 -- the first year of a cycle, in which no virtual day was put
-zeroth : (r y o : ℕ) → Spot J.leapAt J.start (r + 0) y o → r < 366 → y ≡ 0
+zeroth : (r y o : ℕ) → InYear J.leapAt J.start (r + 0) y o → r < 366 → y ≡ 0
 zeroth r y o p a = omega arith
 
 cycle-length : (q : ℕ) → yearLength (G.leapAt (400 * q + 0)) ≡ 366
 cycle-length q = G.length-400 (400 * q + 0) (omega arith) (omega arith) (omega arith)
 
-module _ (q r n y o : ℕ) (h : r < 146_097) (p : Spot J.leapAt J.start (r + n) y o) where
-  spot-first : r < 366 → n ≡ 0 → Spot G.leapAt G.start (16_106_132 + 146_097 * q + r) (400 * q + y) o
+module _ (q r n y o : ℕ) (h : r < 146_097) (p : InYear J.leapAt J.start (r + n) y o) where
+  spot-first : r < 366 → n ≡ 0 → InYear G.leapAt G.start (16_106_132 + 146_097 * q + r) (400 * q + y) o
   spot-first a e =
-      let z : y ≡ 0 = zeroth r y o (subst (λ (n : ℕ). Spot J.leapAt J.start (r + n) y o) e p) a in
+      let z : y ≡ 0 = zeroth r y o (subst (λ (n : ℕ). InYear J.leapAt J.start (r + n) y o) e p) a in
       record {
         from = p .from;
         to = rw z (omega (arith, cycle-length q, year-most (J.leapAt y)));
         adds = adds-by q r n o (G.start (400 * q + y)) (G.start y) (J.start y) (start-cycle q y) (rw (z, e)) (p .adds);
       }
 
-  spot-later : 366 ≤ r → n ≡ (r - 366) / 36_524 → Spot G.leapAt G.start (16_106_132 + 146_097 * q + r) (400 * q + y) o
+  spot-later : 366 ≤ r → n ≡ (r - 366) / 36_524 → InYear G.leapAt G.start (16_106_132 + 146_097 * q + r) (400 * q + y) o
   spot-later a v =
       let l : 100 * n + 1 ≤ y = low r n y o h p a v in
       let u : y ≤ 100 * n + 100 = high r n y o h p a v in
@@ -113,19 +113,19 @@ module _ (q r n y o : ℕ) (h : r < 146_097) (p : Spot J.leapAt J.start (r + n) 
       }
 
   -- the Gregorian year and ordinal of day r of cycle q
-  pub spot-virtual : Virtual r n → Spot G.leapAt G.start (16_106_132 + 146_097 * q + r) (400 * q + y) o
+  pub spot-virtual : Virtual r n → InYear G.leapAt G.start (16_106_132 + 146_097 * q + r) (400 * q + y) o
   spot-virtual v = ⊎-elim (λ a. spot-first a (v .first a)) (λ a. spot-later a (v .later a)) (lt-or-ge r 366)
 
 pub virtual-most : (r n : ℕ) → Virtual r n → n ≤ r
 virtual-most r n v = ⊎-elim (λ a. omega (arith, v .first a)) (λ a. omega (arith, v .later a)) (lt-or-ge r 366)
 
 -- and so of any day
-pub spot-gregorian : (k n y o : ℕ) → 16_106_132 ≤ k → Virtual ((k - 16_106_132) % 146_097) n → Spot J.leapAt J.start ((k - 16_106_132) % 146_097 + n) y o
-    → Spot G.leapAt G.start k (400 * ((k - 16_106_132) / 146_097) + y) o
+pub spot-gregorian : (k n y o : ℕ) → 16_106_132 ≤ k → Virtual ((k - 16_106_132) % 146_097) n → InYear J.leapAt J.start ((k - 16_106_132) % 146_097 + n) y o
+    → InYear G.leapAt G.start k (400 * ((k - 16_106_132) / 146_097) + y) o
 spot-gregorian k n y o h v p =
     let q : ℕ = (k - 16_106_132) / 146_097 in
     let r : ℕ = (k - 16_106_132) % 146_097 in
-    subst (λ (d : ℕ). Spot G.leapAt G.start d (400 * q + y) o) (again k h) (spot-virtual q r n y o (omega arith) p v)
+    subst (λ (d : ℕ). InYear G.leapAt G.start d (400 * q + y) o) (again k h) (spot-virtual q r n y o (omega arith) p v)
   where
     again : (k : ℕ) → 16_106_132 ≤ k → 16_106_132 + 146_097 * ((k - 16_106_132) / 146_097) + (k - 16_106_132) % 146_097 ≡ k
     again k h = omega arith

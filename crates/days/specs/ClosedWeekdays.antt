@@ -7,7 +7,8 @@ use native.Mathlib.Omega.{arith}
 use borrow.Author.Tests.{lt-ltb, le-ltb}
 use lib.IntN.{ℤ, pos, sucℤ}
 use Rattle.whole.specs.Tests.{lt-or-ge}
-use Rattle.whole.specs.Biased.{unbias, unbias-suc}
+use Rattle.whole.specs.Biased.{unbias-suc}
+use Rattle.whole.specs.Promise.{unbias}
 use Rattle.days.specs.DayByDay.{stepping, nextWeekday, prevWeekday, weekday}
 use Rattle.days.specs.ReckoningSteps.{stepping-good, stepping-suc}
 use Rattle.days.specs.ClosedStarts.{everywhere}

@@ -257,7 +257,7 @@ pub data Accepted : Calendar → Type 0 where
   gregorian-accepted : Accepted Gregorian
   reforming-accepted : {r : ℤ} → AcceptedReformation r → Accepted (Reforming r)
 
--- ---- Skipped dates
+-- ---- Skipped dates and missing ones
 
 -- d is the day of one of the switches
 pub data SwitchDay : List Switch → ℤ → Type 0 where
@@ -278,6 +278,13 @@ pub record SkippedIn (t : Timeline) (l : Label) : Type 0 where
 
 abbrev pub Skipped : Calendar → Label → Type 0
 Skipped c = SkippedIn (timeline c)
+
+-- a label is missing: no day bears it, and it is not skipped
+abbrev pub MissingIn : Timeline → Label → Type 0
+MissingIn t l = (¬ Borne (labelsIn t) l) × (¬ SkippedIn t l)
+
+abbrev pub Missing : Calendar → Label → Type 0
+Missing c = MissingIn (timeline c)
 
 -- ---- Timelines that rise
 

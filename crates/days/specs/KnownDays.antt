@@ -7,7 +7,7 @@ use lib.Dec.{T, leb, ltb}
 use lib.IntN.{ℤ, pos, negsuc}
 use mathlib.Core.Bool.{Bool, _&&_}
 use mir.Facts.{and-yes, leb-yes, ltb-yes}
-use Rattle.days.specs.DayByDay.{Label, label, monthLength, Calendar, Julian, Gregorian, Reforming, labels, Borne, OfYear, Place, Ordinal, DayOrdinal, YearLength, Skipped, weekday, UnixTime}
+use Rattle.days.specs.DayByDay.{Label, label, monthLength, Calendar, Julian, Gregorian, Reforming, labels, OfYear, Place, Ordinal, DayOrdinal, YearLength, Missing, weekday, UnixTime}
 use Rattle.days.specs.BiasedDays.{day, year, BiasedYear}
 use Rattle.days.specs.ClosedJulian as J
 use Rattle.days.specs.ClosedGregorian as G
@@ -26,10 +26,6 @@ YearIs c n y o = (labels c n .year ≡ y) × Ordinal (labels c) n o
 abbrev pub Dated : Calendar → ℤ → ℤ → ℕ → ℕ → ℕ → Type 0
 Dated c n y m d o = (labels c n ≡ label y m d) × Ordinal (labels c) n o
 
--- no day of the calendar c is year y, month m, day d, and the date is not skipped
-abbrev pub Missing : Calendar → ℤ → ℕ → ℕ → Type 0
-Missing c y m d = (¬ Borne (labels c) (label y m d)) × (¬ Skipped c (label y m d))
-
 pub record KnownDays : Type 0 where
   -- 0: Julian -4712 ordinal 1; Gregorian -4713 ordinal 328
   pub zero-julian : YearIs Julian (pos 0) (negsuc 4711) 1
@@ -47,7 +43,7 @@ pub record KnownDays : Type 0 where
   -- r = 1830692: 300-02-28, then 300-03-01 ordinal 60; 300-02-29 refused
   pub last-julian-300 : labels (Reforming (pos 1_830_692)) (pos 1_830_691) ≡ label (pos 300) 2 28
   pub first-gregorian-300 : Dated (Reforming (pos 1_830_692)) (pos 1_830_692) (pos 300) 3 1 60
-  pub missing-300 : Missing (Reforming (pos 1_830_692)) (pos 300) 2 29
+  pub missing-300 : Missing (Reforming (pos 1_830_692)) (label (pos 300) 2 29)
   -- r = 2419403: 1911 has 352 days; 1912-01-01 ordinal 1
   pub length-1911 : YearLength (labels (Reforming (pos 2_419_403))) (pos 1911) 352
   pub first-gregorian-1912 : Dated (Reforming (pos 2_419_403)) (pos 2_419_403) (pos 1912) 1 1 1

@@ -21,7 +21,7 @@ use Rattle.days.specs.ReformationRules.{Outcome, accepted, refused-1, re
 use Rattle.days.specs.LabelOrder.{≺-irrefl, ≺-trans, ≺-year}
 use Rattle.days.specs.RisingLabels.{up-back}
 use Rattle.days.specs.RisingSpans.{biased-from}
-use Rattle.days.specs.BiasedDays.{dayBias, yearBias, day, year, HeldDay}
+use Rattle.days.specs.BiasedDays.{dayBias, yearBias, day, year, BiasedDay}
 use Rattle.days.specs.ClosedMonths.{twelve}
 use Rattle.days.specs.ClosedStarts.{start-right}
 use Rattle.days.specs.ClosedJulian as J
@@ -141,12 +141,12 @@ julian-fits k h g =
         never i = let c : 786_514_249_530 < k = unbias-down dayBias (up-back gregorian-rises (subst₂ _≺_ last-biased e (julian-rises (day 786_514_293_589) (day j) (unbias-up dayBias i)))) in omega arith
 
 -- a day that fits is biased as a natural of 32 bits
-pub biased-fits : {n : ℤ} → Is32Bit n → (k : ℕ) × (n ≡ day k) × HeldDay k
+pub biased-fits : {n : ℤ} → Is32Bit n → (k : ℕ) × (n ≡ day k) × BiasedDay k
 biased-fits {n} f =
     let (k, e, u) = biased-from dayBias 782_219_326_294 n (fits-from f) in
     (k, e, record { from = u; to = omega (arith, unbias-fits-only dayBias k (subst (SFits w32) e f)) })
 
-pub fits-biased : {k : ℕ} → HeldDay k → Is32Bit (day k)
+pub fits-biased : {k : ℕ} → BiasedDay k → Is32Bit (day k)
 fits-biased {k} h = unbias-fits dayBias k (omega (arith, h .from)) (omega (arith, h .to))
 
 pub fits-only : (k : ℕ) → JulianDayFits (day k) → (782_219_370_428 ≤ k) × (k ≤ 786_514_249_530)
@@ -157,14 +157,14 @@ fits-only k p =
       ⊎-elim (λ i. absurd (high j h (in-step last-biased q i))) (λ i. i) (N.lt-or-ge 786_514_249_530 k),
     )
   where
-    low : (j : ℕ) → HeldDay j → j < 782_219_326_294 → ⊥
+    low : (j : ℕ) → BiasedDay j → j < 782_219_326_294 → ⊥
     low j h i = omega (arith, h .from)
 
-    high : (j : ℕ) → HeldDay j → 786_514_293_589 < j → ⊥
+    high : (j : ℕ) → BiasedDay j → 786_514_293_589 < j → ⊥
     high j h i = omega (arith, h .to)
 
 -- the day before r is of 32 bits, but for the least r
-before-fits : (k : ℕ) → HeldDay k → 782_219_326_294 < k → Is32Bit (day k -ℤ pos 1)
+before-fits : (k : ℕ) → BiasedDay k → 782_219_326_294 < k → Is32Bit (day k -ℤ pos 1)
 before-fits k h g = subst (SFits w32) (sym (unbias-back dayBias k 1 (omega arith))) (fits-biased {k = k - 1} (record { from = omega arith; to = omega (arith, h .to) }))
 
 before-not : ¬ Is32Bit (day 782_219_326_294 -ℤ pos 1)
@@ -184,7 +184,7 @@ accepts-only k h p = (
   fits-only k (p .julian-day-fits) .1,
 )
 
-row-judged : (k : ℕ) → HeldDay k → {o : Outcome} → TableRow (day k) o → Judged (day k) o
+row-judged : (k : ℕ) → BiasedDay k → {o : Outcome} → TableRow (day k) o → Judged (day k) o
 row-judged k h (row-1 e) = no-day-before (subst (λ (z : ℤ). ¬ Is32Bit (z -ℤ pos 1)) (sym e) before-not)
 row-judged k h (row-2 a b) =
     let u : 782_219_326_295 ≤ k = unbias-le-down dayBias 782_219_326_295 k a in
@@ -206,7 +206,7 @@ row-judged k h (row-5 a b) =
     never v w = omega arith
 
 -- every r is in a row
-some-row : (k : ℕ) → HeldDay k → (o : Outcome) × TableRow (day k) o
+some-row : (k : ℕ) → BiasedDay k → (o : Outcome) × TableRow (day k) o
 some-row k h = ⊎-elim
     (λ a. (refused-1, row-1 (ap day (least a))))
     (λ a. ⊎-elim

@@ -12,7 +12,8 @@ use lib.Dec.{ltb}
 use lib.IntN.{ℤ, pos, sucℤ, _-ℤ_}
 use lib.Signed.{_<ℤ_, _≤ℤ_, <ℤ-irrefl, clashℤ}
 use Rattle.whole.specs.Tests as N
-use Rattle.whole.specs.Biased.{unbias, unbias-add, unbias-back, unbias-injective}
+use Rattle.whole.specs.Biased.{unbias-add, unbias-back, unbias-injective}
+use Rattle.whole.specs.Promise.{unbias}
 use Rattle.whole.specs.Integers.{lt-or-ge, antisym, eq-le, le-trans, lt-suc, lt-suc-le, steps, none-between, unbias-up, unbias-down, unbias-le}
 use Rattle.days.specs.DayByDay.{Label, label, _≺_, by-year, by-month, by-day, Rises, OfYear, OfMonth, Place, Days}
 use Rattle.days.specs.LabelOrder.{≺-irrefl, ≺-trans}

@@ -1,1 +1,1 @@
-// Specs alone: the calendars day by day, and their laws. No function.
+// The calendars as mathematics: the definition day by day, and its laws. Specifications only, no function.

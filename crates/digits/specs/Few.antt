@@ -1,4 +1,4 @@
--- One digit and two at a place: what `Reading` computes of them, and the run that they begin.
+-- One digit and two at a place: what `Promise` computes of them, and the run that they begin.
 -- Assumes nothing.
 use Prim.Native.Nat.{ℕ, _+_, _-_, _*_, _≤_, _<_, _^_, _%_}
 use mathlib.Core.Path.{_≡_, refl, sym, _∙_, ap, ap₂}
@@ -9,7 +9,7 @@ use lib.ListN.{length, getD, drop}
 use lib.Dec.{ltb, leb}
 use borrow.Author.Tests.{lt-ltb, le-ltb, ltb-true, ltb-false, leb-true, leb-false}
 use Rattle.digits.specs.Numerals.{dash, Digit}
-use Rattle.digits.specs.Reading.{pick, front, digitOf, pairValue, pairOf}
+use Rattle.digits.specs.Promise.{pick, front, digitOf, pairValue, pairOf}
 use Rattle.digits.specs.Runs.{pick-yes, pick-no, is-digit, not-digit, front-more, front-stop}
 
 -- ---- one digit, and two

@@ -1,6 +1,6 @@
--- Digits in text: what they are and write (`Numerals`), what stands at a place by computing (`Reading`), and that both agree: for a run of digits
--- (`Runs`), and for one digit and two (`Few`).
+-- Digits in text: what they are and write (`Numerals`), what the calls promise (`Promise`), and that both agree: for a run of digits (`Runs`), and for one
+-- digit and two (`Few`).
 pub mod Numerals
-pub mod Reading
+pub mod Promise
 pub mod Runs
 pub mod Few

@@ -1,4 +1,4 @@
--- Laws of `Reading`: the digits at the front of a list, a reader that goes along them, and that what it finds is what `Numerals` says, both ways.
+-- Laws of `Promise`: the digits at the front of a list, a reader that goes along them, and that what it finds is what `Numerals` says, both ways.
 -- Assumes nothing.
 use Prim.Native.Nat.{ℕ, _+_, _-_, _*_, _≤_, _<_}
 use mathlib.Core.Path.{_≡_, refl, sym, _∙_, ap, ap₂, subst}
@@ -12,7 +12,7 @@ use lib.Seq.{drop-cons}
 use lib.Dec.{leb}
 use borrow.Author.Tests.{le-leb, lt-leb, leb-true, leb-false, eq-eqb, ne-eqb}
 use Rattle.digits.specs.Numerals.{valueFrom, valueOf, Digit, Digits, Numeral, Stops}
-use Rattle.digits.specs.Reading.{pick, isDigit, front, runFrom, runOf, endsOf}
+use Rattle.digits.specs.Promise.{pick, isDigit, front, runFrom, runOf, endsOf}
 use Rattle.digits.specs.declared.Run.{Run}
 
 pub pick-yes : {A : Type 0} {t : Bool} (a b : A) → t ≡ true → pick t a b ≡ a

@@ -3,7 +3,7 @@
 
 ghost use mathlib.Core.Path.{_≡_};
 ghost use lib.ListN.{drop};
-ghost use Rattle.digits.specs.Reading.{isDigit, digitOf, pairOf, runOf, endsOf};
+ghost use Rattle.digits.specs.Promise.{isDigit, digitOf, pairOf, runOf, endsOf};
 
 // ---- a run of digits
 

@@ -13,7 +13,9 @@ use Rattle.refusals.specs.declared.Refusal.{Refusal}
 use Rattle.calendar.specs.declared.Dated.the-variants as Dated′
 use Rattle.calendar.specs.declared.Chosen.the-variants as Chosen′
 use Rattle.ncal.specs.Promise.{NamesCalendar}
-use Rattle.entry.specs.Entry.{tab, Entry, tabbed, bare, ByEntry, no-name}
+use Rattle.entry.specs.Entry.{Entry, tabbed, bare}
+use Rattle.whole.specs.Text.{tab}
+use Rattle.entry.specs.Promise.{ByEntry, no-name}
 
 entry-tabbed : {l : List ℕ} {k : ℕ} → UpTo tab l 0 k → k < length l → Entry l (take k l) (drop (k + 1) l)
 entry-tabbed {l} {k} (UpTo.stands {q} u e w p) h =

@@ -1,5 +1,6 @@
--- A line of a register. A reader's file is `Entry`: the name and the text of a line, and the answer to it. `One` shows that the promise allows one
+-- A line of a register. A reader's files are `Entry`, the name and the text of a line, and `Promise`, the answer to it. `One` shows that the promise allows one
 -- result, and `Laws` has the parts of a line.
 pub mod Entry
+pub mod Promise
 pub mod Laws
 pub mod One

@@ -6,12 +6,13 @@ use mathlib.Core.List.{List}
 use Rattle.bytesearch.specs.One.{never, parted-one, never-parted}
 use Rattle.calendar.specs.declared.Calendar.{Calendar}
 use Rattle.calendar.specs.declared.Chosen.{Chosen}
-use Rattle.calendar.specs.Rows.{One, if-one}
+use Rattle.calendar.specs.RowLaws.{One, if-one}
 use Rattle.ncal.specs.Promise.{NamesCalendar}
 use Rattle.ncal.specs.Theorems.{named-one}
 use Rattle.dateparse.specs.Promise.{ParseDate}
 use Rattle.dateparse.specs.Theorems.{parse-date-one}
-use Rattle.entry.specs.Entry.{Entry, tabbed, bare, ByEntry, no-name, by-text, LineAnswer}
+use Rattle.entry.specs.Entry.{Entry, tabbed, bare}
+use Rattle.entry.specs.Promise.{ByEntry, no-name, by-text, LineAnswer}
 
 entry-same : {l m name text name′ text′ : List ℕ} → l ≡ m → Entry l name text → Entry m name′ text′ → (name ≡ name′) × (text ≡ text′)
 entry-same e (tabbed w) (tabbed v) = parted-one w v e

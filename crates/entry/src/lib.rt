@@ -5,7 +5,7 @@ ghost use Prim.Native.Nat.{_≤_};
 ghost use lib.ListN.{length, take, drop};
 ghost use Rattle.ncal.specs.Promise.{NamesCalendar};
 ghost use Rattle.dateparse.specs.Promise.{ParseDate};
-ghost use Rattle.entry.specs.Entry.{LineAnswer};
+ghost use Rattle.entry.specs.Promise.{LineAnswer};
 ghost use Rattle.entry.specs.Laws.{TextFrom};
 use calendar::Calendar;
 use calendar::Chosen;

@@ -1,7 +1,7 @@
-// The numbers of a date that its day and its calendar determine, and whether two dates agree in all of them.
+// The numbers of a date that follow from its day and its calendar, and whether two dates agree in all of them.
 // For the crates above.
 
-ghost use Rattle.fields.specs.Same.{IsSame};
+ghost use Rattle.fields.specs.Promise.{IsSame};
 
 pub struct Fields {
     pub year: i32,

@@ -13,14 +13,14 @@ use lib.IntN.{ℤ}
 use mir.Syntax.{w32}
 use mir.Val.{toZ, ofZ}
 use Rattle.whole.specs.Tests.{lt-or-ge, eq-or-not}
-use Rattle.whole.specs.Biased.{unbias}
+use Rattle.whole.specs.Promise.{unbias}
 use Rattle.whole.specs.Machine.{back, unbias-both}
 use Rattle.whole.specs.Edge.{unbias-fits-only}
 use Rattle.days.specs.DayByDay.{Label, Reckoning, labelOf, julian, gregorian, julianLeap, gregorianLeap, Calendar, Julian, Gregorian, labels, OfYear, Place, Ordinal}
 use Rattle.days.specs.RisingLabels.{nth-within}
-use Rattle.days.specs.BiasedDays.{dayBias, day, year, HeldDay, BiasedYear}
+use Rattle.days.specs.BiasedDays.{dayBias, day, year, BiasedDay, BiasedYear}
 use Rattle.days.specs.ClosedYear.{yearLength}
-use Rattle.days.specs.ClosedStarts.{Starts, Spot, label-of}
+use Rattle.days.specs.ClosedStarts.{Starts, InYear, label-of}
 use Rattle.days.specs.ClosedJulian as J
 use Rattle.days.specs.ClosedGregorian as G
 use Rattle.days.specs.ClosedVirtual.{spot-gregorian}
@@ -39,7 +39,7 @@ biased-day x = ap day (add-comm x 782_219_326_294) ∙ unbias-both 782_219_326_2
 pub biased-year : (x : ℕ) → year (biasedYear x) ≡ unbias (2 ^ 31) x
 biased-year x = ap year (add-comm x 352) ∙ unbias-both 352 (2 ^ 31) x
 
-pub raised-day-biased : {x : ℕ} → x < 2 ^ 32 → HeldDay (biasedDay x)
+pub raised-day-biased : {x : ℕ} → x < 2 ^ 32 → BiasedDay (biasedDay x)
 raised-day-biased h = record { from = omega arith; to = omega arith }
 
 pub raised-year-biased : {x : ℕ} → x < 2 ^ 32 → BiasedYear (biasedYear x)
@@ -118,10 +118,10 @@ gregorian-alone = record {
 }
 
 module _ {c : Calendar} {r : ℕ} {reckoning : Reckoning} {leapAt : ℕ → Bool} {start : ℕ → ℕ} (alone : Alone c r reckoning leapAt start) where
-  of-year : {k y o : ℕ} → Spot leapAt start k y o → OfYear (year y) (labels c (day k))
+  of-year : {k y o : ℕ} → InYear leapAt start k y o → OfYear (year y) (labels c (day k))
   of-year {k} {y} {o} p = ap (λ (l : Label). l .year) (alone .same (day k) ∙ label-of (alone .starts) k y o p)
 
-  place-of : {k y o : ℕ} → BiasedYear y → Spot leapAt start k y o → Place (λ d. OfYear (year y) (labels c d)) (day k) o
+  place-of : {k y o : ℕ} → BiasedYear y → InYear leapAt start k y o → Place (λ d. OfYear (year y) (labels c d)) (day k) o
   place-of {k} {y} {o} h p =
       let e : k + 1 - yearFirst r y ≡ o = ap (λ (a : ℕ). k + 1 - a) (alone .first y h) ∙ rest (start y) (p .adds) in
       subst (Place (λ d. OfYear (year y) (labels c d)) (day k)) e (year-stretch (alone .runs) y h .here k (of-year p) .2)
@@ -130,20 +130,20 @@ module _ {c : Calendar} {r : ℕ} {reckoning : Reckoning} {leapAt : ℕ → Bool
       rest a e = omega arith
 
   -- a year and an ordinal that add up to a day are the day's
-  pub spot-year-and-ordinal : {k y o : ℕ} {n z : ℤ} → BiasedYear y → Spot leapAt start k y o → day k ≡ n → year y ≡ z → YearAndOrdinal (labels c) n z o
+  pub spot-year-and-ordinal : {k y o : ℕ} {n z : ℤ} → BiasedYear y → InYear leapAt start k y o → day k ≡ n → year y ≡ z → YearAndOrdinal (labels c) n z o
   spot-year-and-ordinal {k} {y} {o} {z = z} h p e f = record {
     year-is = subst (λ (n : ℤ). OfYear z (labels c n)) e (of-year p ∙ f);
     ordinal-is = subst (λ (n : ℤ). Ordinal (labels c) n o) e (subst (λ (z : ℤ). Place (λ d. OfYear z (labels c d)) (day k) o) (sym (of-year p)) (place-of h p));
   }
 
   -- and the other way round: a day of a year has its ordinal there
-  pub spot-of-year : {k y : ℕ} → BiasedYear y → OfYear (year y) (labels c (day k)) → Spot leapAt start k y (k + 1 - start y)
+  pub spot-of-year : {k y : ℕ} → BiasedYear y → OfYear (year y) (labels c (day k)) → InYear leapAt start k y (k + 1 - start y)
   spot-of-year {k} {y} h p =
       let (a, b, q) = year-stretch (alone .runs) y h .here k p in
       let n : start (y + 1) ≡ start y + yearLength (leapAt y) = ap start (add-one y) ∙ alone .starts .start-next y in
       between (alone .first y h) (alone .first-next y h ∙ n) a b
     where
-      between : {a b : ℕ} → a ≡ start y → b ≡ start y + yearLength (leapAt y) → a ≤ k → k < b → Spot leapAt start k y (k + 1 - start y)
+      between : {a b : ℕ} → a ≡ start y → b ≡ start y + yearLength (leapAt y) → a ≤ k → k < b → InYear leapAt start k y (k + 1 - start y)
       between e f g i = record { from = some (start y) (yearLength (leapAt y)) e f g i .0; to = some (start y) (yearLength (leapAt y)) e f g i .1; adds = some (start y) (yearLength (leapAt y)) e f g i .2 }
         where
           some : {a b : ℕ} (s l : ℕ) → a ≡ s → b ≡ s + l → a ≤ k → k < b → (1 ≤ k + 1 - s) × (k + 1 - s ≤ l) × (s + (k + 1 - s) ≡ k + 1)
@@ -152,7 +152,7 @@ module _ {c : Calendar} {r : ℕ} {reckoning : Reckoning} {leapAt : ℕ → Bool
   -- the o-th day of a year
   pub ordinal-day : {y o : ℕ} → BiasedYear y → 1 ≤ o → o ≤ yearLength (leapAt y) → OrdinalDay (labels c) (year y) o (day (start y + o - 1))
   ordinal-day {y} {o} h f t =
-      let p : Spot leapAt start (start y + o - 1) y o = record { from = f; to = t; adds = sum (start y) } in
+      let p : InYear leapAt start (start y + o - 1) y o = record { from = f; to = t; adds = sum (start y) } in
       record { of-year = of-year p; place = place-of h p }
     where
       sum : (a : ℕ) → a + o ≡ a + o - 1 + 1
@@ -185,11 +185,11 @@ module _ {c : Calendar} {r : ℕ} {reckoning : Reckoning} {leapAt : ℕ → Bool
       by (on-year u t l) = lowered-is u t l
 
 -- a biased year that was lowered by 352 is raised again
-pub spot-again : {leapAt : ℕ → Bool} {start : ℕ → ℕ} {k y o : ℕ} → BiasedYear y → Spot leapAt start k y o → Spot leapAt start k (y - 352 + 352) o
-spot-again {leapAt} {start} {k} {y} {o} h p = let e : y ≡ y - 352 + 352 = omega (arith, h .from) in subst (λ (y : ℕ). Spot leapAt start k y o) e p
+pub spot-again : {leapAt : ℕ → Bool} {start : ℕ → ℕ} {k y o : ℕ} → BiasedYear y → InYear leapAt start k y o → InYear leapAt start k (y - 352 + 352) o
+spot-again {leapAt} {start} {k} {y} {o} h p = let e : y ≡ y - 352 + 352 = omega (arith, h .from) in subst (λ (y : ℕ). InYear leapAt start k y o) e p
 
 -- the year and ordinal of a day by quarters of a day, of which a year has 1461
-pub by-quarters : (k : ℕ) → Spot J.leapAt J.start k (4 * k / 1461) (4 * k % 1461 / 4 + 1)
+pub by-quarters : (k : ℕ) → InYear J.leapAt J.start k (4 * k / 1461) (4 * k % 1461 / 4 + 1)
 by-quarters k = record {
   from = omega arith;
   to = ⊎-elim (λ e. omega (arith, J.length-leap (4 * k / 1461) e)) (λ n. omega (arith, short n, J.length-common (4 * k / 1461) n)) (eq-or-not (4 * k / 1461 % 4) 0);
@@ -211,13 +211,13 @@ pub virtual-some : {r p : ℕ} → VirtualPoint r p → 1 ≤ p
 virtual-some {r} v = ⊎-elim (λ h. omega (arith, v .first-year h)) (λ h. omega (arith, v .later-year h)) (lt-or-ge r 366)
 
 -- year and ordinal of a biased day, from those of the place in its cycle
-pub virtual-spot : (k : ℕ) {p y o : ℕ} → 16_106_132 ≤ k → VirtualPoint ((k - 16_106_132) % 146_097) p → Spot J.leapAt J.start (p - 1) y o
-    → Spot G.leapAt G.start k (400 * ((k - 16_106_132) / 146_097) + y) o
+pub virtual-spot : (k : ℕ) {p y o : ℕ} → 16_106_132 ≤ k → VirtualPoint ((k - 16_106_132) % 146_097) p → InYear J.leapAt J.start (p - 1) y o
+    → InYear G.leapAt G.start k (400 * ((k - 16_106_132) / 146_097) + y) o
 virtual-spot k {p} {y} {o} h v s =
     let r : ℕ = (k - 16_106_132) % 146_097 in
     spot-gregorian k (p - 1 - r) y o h
     (record { first = λ a. omega (arith, v .first-year a); later = λ a. rest r ((r - 366) / 36_524) (v .later-year a) })
-    (subst (λ (d : ℕ). Spot J.leapAt J.start d y o) (whole (k - 16_106_132) (v .first-year) (v .later-year)) s)
+    (subst (λ (d : ℕ). InYear J.leapAt J.start d y o) (whole (k - 16_106_132) (v .first-year) (v .later-year)) s)
   where
     rest : (r q : ℕ) → p ≡ r + q + 1 → p - 1 - r ≡ q
     rest r q e = omega arith
@@ -240,7 +240,7 @@ lowers-above {k} h = beyond (λ f. never (unbias-fits-only dayBias k f))
 
 pub lowers-within : {k : ℕ} {z : ℤ} → 782_219_326_294 ≤ k → k < 786_514_293_590 → z ≡ unbias (2 ^ 31) (k - 782_219_326_294) → Lowers k (DayNumber′.Day (toZ w32 (ofZ w32 z)))
 lowers-within {k} {z} h g e =
-    let w : HeldDay k = record { from = h; to = g } in
+    let w : BiasedDay k = record { from = h; to = g } in
     subst (λ (z : ℤ). Lowers k (DayNumber′.Day z)) (sym (back (e ∙ same) (fits-biased w))) (within w)
   where
     over : k - 782_219_326_294 + 782_219_326_294 ≡ k

@@ -3,7 +3,7 @@ use mathlib.Core.Path.{_≡_}
 use mathlib.Core.Bool.{Bool}
 use Prim.Native.Nat.{ℕ, _+_, _-_, _/_, _≤_, _<_}
 use Rattle.days.specs.DayByDay.{Is32Bit}
-use Rattle.days.specs.BiasedDays.{day, HeldDay}
+use Rattle.days.specs.BiasedDays.{day, BiasedDay}
 use Rattle.days.specs.ClosedYear.{yearLength}
 use Rattle.inner.specs.declared.DayNumber.{DayNumber}
 use Rattle.inner.specs.declared.DayNumber.the-variants as DayNumber′
@@ -16,7 +16,7 @@ biasedYear x = x + 352
 
 -- a biased day as a number of 32 bits
 pub data Lowers (k : ℕ) : DayNumber → Type 0 where
-  within : HeldDay k → Lowers k (DayNumber′.Day (day k))
+  within : BiasedDay k → Lowers k (DayNumber′.Day (day k))
   beyond : ¬ Is32Bit (day k) → Lowers k DayNumber′.Outside32
 
 -- the o-th day of a year that is leap, or not, and starts on a biased day

@@ -9,7 +9,7 @@ use Rattle.whole.specs.Biased.{unbias-injective}
 use Rattle.days.specs.DayByDay.{Label, Reckoning, Is32Bit}
 use Rattle.days.specs.RisingLabels.{place-one, nth-one}
 use Rattle.days.specs.BiasedDays.{yearBias, year}
-use Rattle.days.specs.ClosedStarts.{Starts, Spot, label-of}
+use Rattle.days.specs.ClosedStarts.{Starts, InYear, label-of}
 use Rattle.days.specs.ReformationTable.{fits-biased}
 use Rattle.inner.specs.declared.DayNumber.{DayNumber}
 use Rattle.inner.specs.declared.DayNumber.the-variants as DayNumber′
@@ -38,9 +38,9 @@ day-of-ordinal-one (outside-32 f a) (outside-32 g b) = refl
 
 -- a day has one year and one ordinal: its label tells the year, and the first day of that year tells the ordinal. The starts are
 -- `J.starts` and `G.starts` of `days`.
-pub spot-one : {c : Reckoning} {leapAt : ℕ → Bool} {start : ℕ → ℕ} → Starts c leapAt start → {k : ℕ} (y z : ℕ) {o p : ℕ}
-    → Spot leapAt start k (biasedYear y) o → Spot leapAt start k (biasedYear z) p → (y ≡ z) × (o ≡ p)
-spot-one {start = start} s {k} y z {o} {p} a b =
+pub in-year-one : {c : Reckoning} {leapAt : ℕ → Bool} {start : ℕ → ℕ} → Starts c leapAt start → {k : ℕ} (y z : ℕ) {o p : ℕ}
+    → InYear leapAt start k (biasedYear y) o → InYear leapAt start k (biasedYear z) p → (y ≡ z) × (o ≡ p)
+in-year-one {start = start} s {k} y z {o} {p} a b =
     let e : biasedYear y ≡ biasedYear z = unbias-injective yearBias (biasedYear y) (biasedYear z)
     (ap (λ (l : Label). l .year) (sym (label-of s k (biasedYear y) o a) ∙ label-of s k (biasedYear z) p b)) in
     (omega arith, rest (start (biasedYear y)) (start (biasedYear z)) (ap start e) (a .adds) (b .adds))

@@ -1,5 +1,5 @@
-// The conversions of one reckoning, Julian or Gregorian: leap years, day number to year and ordinal and back.
-// Days and years go through as naturals: a number of 32 bits is raised by 2147483648 on its way in, so that no sum has a sign.
+// The conversions of one reckoning, Julian or Gregorian: leap years, and day numbers to year and ordinal and back.
+// Days and years are natural numbers inside: a 32-bit number is raised by 2147483648 on the way in, so that no sum has a sign.
 // For users: the leap years, `jdn2julian`, `jdn2gregorian`, `julian2jdn`, `gregorian2jdn`, and the days that have names. For the crates above: the same on
 // biased days and years.
 
@@ -8,7 +8,7 @@ ghost use Prim.Native.Nat.{_<_};
 ghost use Rattle.days.specs.DayByDay.{julian, gregorian, julianLeap, gregorianLeap, labelOf};
 ghost use Rattle.days.specs.KnownDays.{NamedDays};
 ghost use Rattle.days.specs.ClosedYear.{yearLength};
-ghost use Rattle.days.specs.ClosedStarts.{Spot as InYear};
+ghost use Rattle.days.specs.ClosedStarts.{InYear};
 ghost use Rattle.days.specs.ClosedJulian as J;
 ghost use Rattle.days.specs.ClosedGregorian as G;
 ghost use Rattle.inner.specs.Promise.{YearAndOrdinal, DayOfOrdinal};
@@ -117,16 +117,16 @@ pub fn jdn2gregorian(jdn: i32) -> YearDay
 }
 
 // The same of a raised day, with the raised year.
-pub struct Place {
+pub struct RaisedYearDay {
     pub year: u32,
     pub ordinal: u32,
 }
 
-pub fn julian_place(day: u32) -> Place
+pub fn julian_place(day: u32) -> RaisedYearDay
     ensures { λ r. ⌜ InYear J.leapAt J.start (biasedDay day) (biasedYear (r .year)) (r .ordinal) ⌝ }
 {
     let place = decompose_julian(day as u64 + LEAST_DAY);
-    Place {
+    RaisedYearDay {
         year: (place.year - LEAST_YEAR) as u32,
         ordinal: place.ordinal as u32,
     }
@@ -134,14 +134,14 @@ pub fn julian_place(day: u32) -> Place
 
 // Counted from the first day of a cycle of 400 years, with a virtual leap day at the end of each year that is leap by the Julian rule alone,
 // the Julian rule finds year and ordinal.
-pub fn gregorian_place(day: u32) -> Place
+pub fn gregorian_place(day: u32) -> RaisedYearDay
     ensures { λ r. ⌜ InYear G.leapAt G.start (biasedDay day) (biasedYear (r .year)) (r .ordinal) ⌝ }
 {
     // LEAST_DAY less FIRST_CYCLE.
     let days = day as u64 + 782_203_220_162;
     let cycles = days / 146_097;
     let place = decompose_julian(virtual_point(days % 146_097) - 1);
-    Place {
+    RaisedYearDay {
         year: (400 * cycles + place.year - LEAST_YEAR) as u32,
         ordinal: place.ordinal as u32,
     }

@@ -8,15 +8,17 @@ use native.Mathlib.Omega.{arith}
 use lib.ListN.{length, take, drop, length-append}
 use lib.Seq.{take-at}
 use lib.IntN.{ℤ, pos, natAbs}
-use Rattle.whole.specs.Edge.{isNegative}
-use Rattle.refusals.specs.Refusals.{refusal}
+use Rattle.whole.specs.Promise.{isNegative}
+use Rattle.refusals.specs.Promise.{refusal}
 use Rattle.digits.specs.Numerals.{dash}
 use Rattle.refusals.specs.declared.Refusal.{Refusal}
 use Rattle.writer.specs.Promise.{Copies, copied, no-room, digitsOf, WholeDecimal, Puts, Writes, Signs}
 use Rattle.writer.specs.Laws.{PutText, put-on, length-digits, width-few, decimal-of, counting-start, counting-step, wrote, left-alone, whole-text}
 use Rattle.writer.specs.declared.buffer.Copied.{Copied}
 use Rattle.writer.specs.declared.Written.{Written}
-use Rattle.linetext.specs.Line.{longestLine, newline, tab, mark, Columns, numberColumns, refusalColumns, of-numbers, of-refusal, Ended, ended, LineOut}
+use Rattle.linetext.specs.Line.{longestLine, mark, Columns, numberColumns, refusalColumns, of-numbers, of-refusal, Ended, ended}
+use Rattle.whole.specs.Text.{newline, tab}
+use Rattle.linetext.specs.Promise.{LineOut}
 use Rattle.linetext.specs.declared.LineNumbers.{LineNumbers}
 use Rattle.linetext.specs.declared.Line.{Line}
 use Rattle.linetext.specs.declared.Line.the-variants as Line′

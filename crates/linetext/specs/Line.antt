@@ -1,20 +1,14 @@
 -- A line of the listing: the numbers of a day or of a refusal in columns.
 -- Assumes nothing.
-use Prim.Native.Nat.{ℕ, _≤_}
+use Prim.Native.Nat.{ℕ}
 use mathlib.Core.List.{List, [], _∷_, _++_}
-use lib.ListN.{length}
 use lib.IntN.{ℤ, pos}
+use Rattle.whole.specs.Text.{tab, newline}
 use Rattle.refusals.specs.declared.Refusal.{Refusal}
 use Rattle.writer.specs.Promise.{WholeDecimal}
 use Rattle.linetext.specs.declared.LineNumbers.{LineNumbers}
 use Rattle.linetext.specs.declared.Line.{Line}
 use Rattle.linetext.specs.declared.Line.the-variants as Line′
-
-abbrev pub newline : ℕ
-newline = 10
-
-abbrev pub tab : ℕ
-tab = 9
 
 -- the mark of a refusal, `!`
 abbrev pub mark : ℕ
@@ -43,8 +37,3 @@ pub data LineText : Line → List ℕ → Type 0 where
 -- with the newline after it
 pub data Ended (l : Line) : List ℕ → Type 0 where
   ended : {t : List ℕ} → LineText l t → Ended l (t ++ (newline ∷ []))
-
--- and with its length
-pub record LineOut (l : Line) (t : List ℕ) : Type 0 where
-  pub is : Ended l t
-  pub short : length t ≤ longestLine

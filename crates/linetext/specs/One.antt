@@ -7,7 +7,9 @@ use lib.IntN.{ℤ}
 use Rattle.writer.specs.Promise.{Writes}
 use Rattle.writer.specs.One.{whole-one, writes-one}
 use Rattle.writer.specs.declared.Written.{Written}
-use Rattle.linetext.specs.Line.{newline, tab, mark, Columns, LineText, of-numbers, of-refusal, Ended, ended, LineOut}
+use Rattle.linetext.specs.Line.{mark, Columns, LineText, of-numbers, of-refusal, Ended, ended}
+use Rattle.whole.specs.Text.{newline, tab}
+use Rattle.linetext.specs.Promise.{LineOut}
 use Rattle.linetext.specs.declared.Line.{Line}
 
 columns-one : {xs : List ℤ} {t u : List ℕ} → Columns xs t → Columns xs u → t ≡ u

@@ -10,14 +10,17 @@ use lib.Seq.{take-all, take-at}
 use Rattle.writer.specs.Promise.{Writes, Copies, copied, no-room, put, Puts}
 use Rattle.writer.specs.Laws.{put-none, wrote, left-alone, length-put}
 use Rattle.writer.specs.declared.Written.{Written}
-use Rattle.refusals.specs.Refusals.{refusal as textRefusal}
+use Rattle.refusals.specs.Promise.{refusal as textRefusal}
 use Rattle.refusals.specs.declared.Refusal.{Refusal}
-use Rattle.linetext.specs.Line.{LineOut, newline, longestLine}
+use Rattle.linetext.specs.Line.{longestLine}
+use Rattle.linetext.specs.Promise.{LineOut}
+use Rattle.whole.specs.Text.{newline}
 use Rattle.linetext.specs.declared.Line.{Line}
 use Rattle.writer.specs.declared.buffer.Copied.{Copied}
 use Rattle.calendar.specs.declared.Dated.{Dated}
 use Rattle.bytesearch.specs.Promise.{UpTo}
-use Rattle.entry.specs.Entry.{LineAnswer, longestEntry}
+use Rattle.entry.specs.Entry.{longestEntry}
+use Rattle.entry.specs.Promise.{LineAnswer}
 use Rattle.columns.specs.Columns.{lineOf}
 use Rattle.listing.specs.Promise.{AddsToLine, HeldAs, HeldLine, LastLine, BlockState, blockState, NextLine, Lists}
 use Rattle.listing.specs.Lines.{Listed, listed}

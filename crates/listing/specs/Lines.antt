@@ -6,8 +6,9 @@ use mathlib.Core.List.{List, [], _∷_, _++_}
 use lib.ListN.{length}
 use Rattle.calendar.specs.declared.Dated.{Dated}
 use Rattle.bytesearch.specs.Promise.{Without}
-use Rattle.entry.specs.Entry.{LineAnswer}
-use Rattle.linetext.specs.Line.{newline, Ended}
+use Rattle.entry.specs.Promise.{LineAnswer}
+use Rattle.linetext.specs.Line.{Ended}
+use Rattle.whole.specs.Text.{newline}
 use Rattle.columns.specs.Columns.{header, lineOf}
 
 -- ---- the lines of an input: a last line needs no newline

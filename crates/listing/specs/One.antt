@@ -13,9 +13,10 @@ use Rattle.entry.specs.One.{line-answer-one}
 use Rattle.linetext.specs.declared.Line.{Line}
 use Rattle.columns.specs.Columns.{lineOf, header}
 use Rattle.columns.specs.One.{ended-same}
-use Rattle.entry.specs.Entry.{LineAnswer}
+use Rattle.entry.specs.Promise.{LineAnswer}
 use Rattle.bytesearch.specs.One.{parted-one, never-parted}
-use Rattle.linetext.specs.Line.{newline, Ended}
+use Rattle.linetext.specs.Line.{Ended}
+use Rattle.whole.specs.Text.{newline}
 use Rattle.listing.specs.Promise.{AddsToLine, HeldAnswer, HeldAs, HeldLine, LastLine, BlockState, blockState, NextLine, Lists}
 use Rattle.listing.specs.Lines.{Lines, Listed, listed, AllListed, Listing, listing}
 

@@ -9,8 +9,11 @@ use Rattle.calendar.specs.declared.Dated.{Dated}
 use Rattle.calendar.specs.declared.Dated.the-variants as Dated′
 use Rattle.calendar.specs.Promise.{refusal}
 use Rattle.writer.specs.Promise.{put}
-use Rattle.entry.specs.Entry.{LineAnswer, longestEntry}
-use Rattle.linetext.specs.Line.{LineOut, newline, longestLine}
+use Rattle.entry.specs.Entry.{longestEntry}
+use Rattle.entry.specs.Promise.{LineAnswer}
+use Rattle.linetext.specs.Line.{longestLine}
+use Rattle.linetext.specs.Promise.{LineOut}
+use Rattle.whole.specs.Text.{newline}
 use Rattle.linetext.specs.declared.Line.{Line}
 use Rattle.columns.specs.Columns.{lineOf}
 use Rattle.bytesearch.specs.Promise.{Without}

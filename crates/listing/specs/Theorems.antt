@@ -15,8 +15,10 @@ use Rattle.writer.specs.Promise.{put}
 use Rattle.writer.specs.Laws.{put-none, put-then, length-put}
 use Rattle.bytesearch.specs.Promise.{Without}
 use Rattle.bytesearch.specs.Laws.{without-both}
-use Rattle.entry.specs.Entry.{LineAnswer, longestEntry}
-use Rattle.linetext.specs.Line.{newline, longestLine}
+use Rattle.entry.specs.Entry.{longestEntry}
+use Rattle.entry.specs.Promise.{LineAnswer}
+use Rattle.linetext.specs.Line.{longestLine}
+use Rattle.whole.specs.Text.{newline}
 use Rattle.columns.specs.Columns.{header}
 use Rattle.listing.specs.One.{listing-one}
 use Rattle.listing.specs.Promise.{AddsToLine, HeldAnswer, HeldLine, LastLine, BlockState, blockState, NextLine, Lists}

@@ -3,7 +3,7 @@
 ghost use Prim.Native.Nat.{_≤_};
 ghost use lib.ListN.{length, take};
 ghost use Rattle.writer.specs.Promise.{Writes};
-ghost use Rattle.entry.specs.Entry.{LineAnswer};
+ghost use Rattle.entry.specs.Promise.{LineAnswer};
 ghost use Rattle.listing.specs.Promise.{AddsToLine, HeldAs, LastLine};
 use calendar::Dated;
 use entry::LONGEST_ENTRY;

@@ -13,6 +13,7 @@ use Rattle.writer.specs.Promise.{put, Puts, Writes}
 use Rattle.writer.specs.declared.Written.{Written}
 use Rattle.refusals.specs.declared.Refusal.{Refusal}
 use Rattle.columns.specs.Columns.{header}
+use Rattle.columns.specs.Promise.{PutsHeader}
 use Rattle.listing.specs.Promise.{LastLine, BlockState, blockState, Lists}
 use Rattle.listing.specs.Laws.{held-short}
 use Rattle.filter.specs.declared.Phase.the-variants.{Reading, Midway, Closing}
@@ -41,12 +42,12 @@ unfolding header bytes
 header-short t e = omega (arith, ap length e)
 
 module _ {o o′ : List ℕ} (long : length o ≡ blockSize) where
-  pub starts-with : {n : ℕ} {s : State} → Writes (λ (t : List ℕ). t ≡ header) o 0 o′ (Written.Done n) → s ≡ stateWith Reading n → Starts o o′ s
+  pub starts-with : {n : ℕ} {s : State} → PutsHeader o 0 o′ (Written.Done n) → s ≡ stateWith Reading n → Starts o o′ s
   starts-with {n} {s} w e =
       let (t, p, q, k) = written header-short long w in
       subst (Starts o o′) (sym (e ∙ ap (stateWith Reading) (k ∙ ap length p))) (subst (λ (x : List ℕ). Starts o x (stateWith Reading (length header))) (sym (q ∙ ap (put o 0) p)) Starts.starts)
 
-  pub starts-always : {f : Refusal} → Writes (λ (t : List ℕ). t ≡ header) o 0 o′ (Written.Refused f) → ⊥
+  pub starts-always : {f : Refusal} → PutsHeader o 0 o′ (Written.Refused f) → ⊥
   starts-always = not-refused header-short long
 
   module _ {l : List ℕ} {h : ℕ} where

@@ -1,4 +1,4 @@
-// The days of the months of a year: ordinal to month and day and back.
+// The months of a year: from an ordinal to month and day, and back.
 // For the crates above.
 
 ghost use mathlib.Core.Path.{_≡_};

@@ -39,8 +39,8 @@ use Rattle.switches.specs.declared.Spanned.{Spanned}
 use Rattle.switches.specs.declared.Spanned.the-variants as Spanned′
 use Rattle.inner.specs.declared.Spot.{Spot}
 use Rattle.switches.specs.declared.Found.the-variants as Found′
-use Rattle.switches.specs.Spots as S
-use Rattle.switches.specs.Spots.{YearSpan, SpansMonth, Finds}
+use Rattle.switches.specs.Promise as S
+use Rattle.switches.specs.Promise.{YearSpan, SpansMonth, Finds}
 use Rattle.switches.specs.Laws.{starts-close}
 use Rattle.months.specs.Promise as P
 use Rattle.months.specs.Promise.{refusedNumber, OfAMonth, YearLengthOf, Len, first, no-first, last, no-last, FirstDayOf, LastDayOf, borne, not-borne, Contains, DayOrdinalOf, OffMonth, NthDay, nth-record, NthDate}

@@ -10,7 +10,7 @@ use Rattle.days.specs.DayByDay.{Month}
 use Rattle.switches.specs.declared.MonthSpan.{MonthSpan}
 use Rattle.switches.specs.declared.Spanned.{Spanned}
 use Rattle.switches.specs.declared.Spanned.the-variants as Spanned′
-use Rattle.switches.specs.Spots.{monthSpan}
+use Rattle.switches.specs.Promise.{monthSpan}
 use Rattle.calendar.specs.declared.Calendar.{Calendar}
 use Rattle.calendar.specs.Calendars.{definitionOf, Accepted}
 use Rattle.calendar.specs.Promise.{refusal, made-up}

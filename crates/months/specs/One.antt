@@ -13,7 +13,7 @@ use Rattle.calendar.specs.declared.Counted.the-variants as Counted′
 use Rattle.calendar.specs.declared.Told.the-variants as Told′
 use Rattle.calendar.specs.declared.Dated.the-variants as Dated′
 use Rattle.calendar.specs.Calendars.{labels, Accepted}
-use Rattle.calendar.specs.Rows.{One, unless-one, if-one}
+use Rattle.calendar.specs.RowLaws.{One, unless-one, if-one}
 use Rattle.calendar.specs.Promise.{Given}
 use Rattle.calendar.specs.One.{given-one}
 use Rattle.months.specs.Promise.{Number, number, OfAMonth, YearLengthOf, Len, FirstDay, first, no-first, LastDay, last, no-last, FirstDayOf, LastDayOf, Bears, borne, not-borne, Contains, PlaceOf, DayOrdinalOf, IsNth, NthLabel, NthDay, NthRecord, nth-record, NthDate}

@@ -15,9 +15,9 @@ use Rattle.calendar.specs.declared.Told.{Told}
 use Rattle.calendar.specs.declared.Told.the-variants as Told′
 use Rattle.calendar.specs.declared.Dated.{Dated}
 use Rattle.calendar.specs.declared.Dated.the-variants as Dated′
-use Rattle.calendar.specs.Calendars.{labels, Accepted, Skipped}
+use Rattle.calendar.specs.Calendars.{labels, Accepted}
 use Rattle.calendar.specs.Rows.{Unless, If}
-use Rattle.calendar.specs.Promise.{refusal, made-up, refused, Missing, Given}
+use Rattle.calendar.specs.Promise.{refusal, made-up, refused, Given, OfALabel}
 
 abbrev pub refusedNumber : ℕ → ℕ → Counted
 refusedNumber n v = Counted′.Refused (refusal n (pos v))
@@ -80,8 +80,7 @@ PlaceOf f l k = (n : ℤ) × (f n ≡ l) × DayOrdinal f n k
 
 -- day_ordinal: 16, 3, 4, 5, or the place
 abbrev pub DayOrdinalOf : Calendar → ℤ → ℕ → ℕ → Counted → Type 0
-DayOrdinalOf c y m d = OfAMonth c m Counted′.Refused
-    (If (Missing c (label y m d)) (refusedNumber 4 d) (If (Skipped c (label y m d)) (refusedNumber 5 d) (Number (PlaceOf (labels c) (label y m d)))))
+DayOrdinalOf c y m d = OfAMonth c m Counted′.Refused (OfALabel c y m d Counted′.Refused (Number (PlaceOf (labels c) (label y m d))))
 
 -- ---- The k-th day of a month
 

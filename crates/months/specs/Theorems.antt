@@ -27,11 +27,12 @@ use Rattle.calendar.specs.declared.Date.{Date}
 use Rattle.calendar.specs.declared.Counted.the-variants as Counted′
 use Rattle.calendar.specs.declared.Dated.{Dated}
 use Rattle.calendar.specs.declared.Dated.the-variants as Dated′
-use Rattle.calendar.specs.Calendars.{definitionOf, labels, Accepted, Skipped}
-use Rattle.calendar.specs.Rows.{Unless, If, refuses, passes}
-use Rattle.calendar.specs.Promise.{Missing, Given, record-of, refused, AtYmd, on-label}
+use Rattle.calendar.specs.Calendars.{definitionOf, labels}
+use Rattle.calendar.specs.Rows.{refuses, passes}
+use Rattle.refusals.specs.declared.Refusal.{Refusal}
+use Rattle.calendar.specs.Promise.{Given, record-of, refused, AtYmd, on-label, OfALabel}
 use Rattle.calendar.specs.One.{at-ymd-one}
-use Rattle.months.specs.Promise.{number, YearLengthOf, Len, DayOrdinalOf, IsNth, NthDay, nth-record, NthDate}
+use Rattle.months.specs.Promise.{number, YearLengthOf, Len, DayOrdinalOf, IsNth, NthDay, nth-record, NthDate, OfAMonth}
 use Rattle.months.specs.One.{label-of-month, is-nth-one, nth-label-one, place-of-one}
 
 -- ---- Two runs of days, one after the other
@@ -237,11 +238,11 @@ fourth-borne : Borne (labels Gregorian) (label (pos 5_874_898) 6 4)
 fourth-borne = (pos 2_147_483_648, fourth-label)
 
 -- the rows that a date which a day bears passes
-borne : {A : Type 0} {a b c d r : A} {Below : A → Type 0} → Below r
-    → Unless (Accepted Gregorian) a (Unless (Month 6) b (If (Missing Gregorian (label (pos 5_874_898) 6 4)) c (If (Skipped Gregorian (label (pos 5_874_898) 6 4)) d Below))) r
-borne p = passes gregorian-accepted (passes (omega arith, omega arith) (passes (λ i. i .0 fourth-borne) (passes (λ s. skipped-nowhere gregorian-accepted s fourth-borne) p)))
+borne : {A : Type 0} (refused : Refusal → A) {r : A} {Below : A → Type 0} → Below r
+    → OfAMonth Gregorian 6 refused (OfALabel Gregorian (pos 5_874_898) 6 4 refused Below) r
+borne refused p = passes gregorian-accepted (passes (omega arith, omega arith) (passes (λ i. i .0 fourth-borne) (passes (λ s. skipped-nowhere gregorian-accepted s fourth-borne) p)))
 
 pub fourth-of-june : {a : Dated} → NthDate Gregorian (pos 5_874_898) 6 4 a → a ≡ refused 7 (pos 5_874_898)
 fourth-of-june {a} h =
     at-ymd-one Gregorian (pos 5_874_898) 6 4 a (refused 7 (pos 5_874_898))
-    (date-of-place Gregorian (pos 5_874_898) 6 (borne (number (pos 2_147_483_648, fourth-label, fourth-place))) h) (borne (on-label fourth-label (refuses past-32-bits)))
+    (date-of-place Gregorian (pos 5_874_898) 6 (borne Counted′.Refused (number (pos 2_147_483_648, fourth-label, fourth-place))) h) (borne Dated′.Refused (on-label fourth-label (refuses past-32-bits)))

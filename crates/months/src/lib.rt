@@ -1,6 +1,5 @@
 // The years and months of a calendar: how many days they have, and the place of a day in its month. Days outside 32 bits count too.
-// The days of a month are one run, from its first day up to the first day past it: Julian days below the day on which the calendar switches,
-// and Gregorian ones from it on.
+// The days of a month are consecutive: Julian days before the switch, and Gregorian days from the switch on.
 // For users.
 
 ghost use mathlib.Core.Path.{_≡_};

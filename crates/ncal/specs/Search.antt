@@ -1,6 +1,6 @@
 -- What the private functions say: whether two names are the same, and row after row the first with a name.
 -- Assumes nothing.
-use mathlib.Core.Bool.{Bool, true, false, cond}
+use mathlib.Core.Bool.{cond}
 use mathlib.Core.List.{List, [], _∷_}
 use Prim.Native.Nat.{ℕ}
 use lib.Dec.{eqb}
@@ -9,11 +9,6 @@ use Rattle.ncal.specs.declared.Found.{Found}
 use Rattle.ncal.specs.declared.Found.the-variants as Found′
 use Rattle.ncal.specs.Table.{NameRow}
 use Rattle.ncal.specs.Every.{eqList}
-
--- the answer b to the question whether P
-abbrev pub Says : Type 0 → Bool → Type 0
-Says P true = P
-Says P false = ¬ P
 
 -- one row more: what was found before it stays
 unfoldable pub orRow : List ℕ → Found → NameRow → Found

@@ -16,7 +16,8 @@ use Rattle.days.specs.BiasedDays.{dayBias}
 use Rattle.days.specs.RisingSpans.{biased-from}
 use Rattle.days.specs.ReformationTable.{accepts}
 use Rattle.calendar.specs.Calendars.{Accepted}
-use Rattle.calendar.specs.Rows.{One, unless-one, refuses, passes}
+use Rattle.calendar.specs.Rows.{refuses, passes}
+use Rattle.calendar.specs.RowLaws.{One, unless-one}
 use Rattle.calendar.specs.declared.Calendar.{Calendar}
 use Rattle.calendar.specs.declared.Calendar.the-variants.{Julian, Gregorian, Reforming}
 use Rattle.calendar.specs.declared.Chosen.{Chosen}
@@ -38,20 +39,16 @@ at-row f = every-at f (row [] Julian) table
 row-of : {s : List ℕ} {c : Calendar} → InTable s c → (i : ℕ) × (i < length table) × (row s c ≡ rowAt i)
 row-of = number-of (row [] Julian) table
 
-distinct-names : (j k : ℕ) → j < length table → k < length table → rowAt j .name ≡ rowAt k .name → j ≡ k
+pub names-distinct : (j k : ℕ) → j < length table → k < length table → rowAt j .name ≡ rowAt k .name → j ≡ k
 unfolding table bytes
-distinct-names = distinct (λ (r : NameRow). r .name) (row [] Julian) table tt
-
-pub names-distinct : (j k : ℕ) → j < 36 → k < 36 → rowAt j .name ≡ rowAt k .name → j ≡ k
-unfolding table
-names-distinct = distinct-names
+names-distinct = distinct (λ (r : NameRow). r .name) (row [] Julian) table tt
 
 -- ---- One result
 one-row : {s : List ℕ} {b c : Calendar} → InTable s b → InTable s c → b ≡ c
 one-row p q =
     let (j, g, d) = row-of p in
     let (k, h, e) = row-of q in
-    let i : j ≡ k = distinct-names j k g h (ap (λ (r : NameRow). r .name) (sym d) ∙ ap (λ (r : NameRow). r .name) e) in
+    let i : j ≡ k = names-distinct j k g h (ap (λ (r : NameRow). r .name) (sym d) ∙ ap (λ (r : NameRow). r .name) e) in
     ap (λ (r : NameRow). r .calendar) d ∙ ap (λ (l : ℕ). rowAt l .calendar) i ∙ ap (λ (r : NameRow). r .calendar) (sym e)
 
 of-row-one : (s : List ℕ) → One (OfRow s)

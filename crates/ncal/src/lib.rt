@@ -1,10 +1,11 @@
-// The calendars of the countries that `ncal` knows, and calendars by name.
+// The calendars of the countries that `ncal.rs` of the crate lists, and calendars by name.
 // For users.
 
 ghost use mathlib.Core.Path.{_≡_};
 ghost use Rattle.ncal.specs.Table.{row, table};
 ghost use Rattle.ncal.specs.Promise.{NamesCalendar};
-ghost use Rattle.ncal.specs.Search.{Says, orRow, among, ofLength};
+ghost use Rattle.ncal.specs.Search.{orRow, among, ofLength};
+ghost use Rattle.whole.specs.Whether.{Whether};
 use calendar::Calendar;
 use calendar::Chosen;
 use calendar::refusal_of;
@@ -257,7 +258,7 @@ fn of_fourteen(name: &[u8]) -> Found
 
 // Byte by byte.
 fn same(name: &[u8], own: &[u8]) -> bool
-    ensures { λ r. ⌜ Says (now (name .entry) ≡ now (own .entry)) r ⌝ }
+    ensures { λ r. ⌜ Whether (now (name .entry) ≡ now (own .entry)) r ⌝ }
 {
     if name.len() != own.len() {
         return false;

@@ -11,10 +11,10 @@ use lib.IntN.{ℤ, pos, negℤ}
 use lib.Dec.{ltb, eqb}
 use borrow.Author.Tests.{ltb-true, ltb-false, ne-eqb, eqb-true, eqb-false}
 use Rattle.refusals.specs.declared.Refusal.{Refusal}
-use Rattle.whole.specs.Edge.{signedOf}
-use Rattle.refusals.specs.Refusals.{refusal}
+use Rattle.whole.specs.Promise.{signedOf}
+use Rattle.refusals.specs.Promise.{refusal}
 use Rattle.digits.specs.Numerals.{plus, dash, Digits, Numeral, Stops}
-use Rattle.digits.specs.Reading.{pick, runOf}
+use Rattle.digits.specs.Promise.{pick, runOf}
 use Rattle.digits.specs.Runs.{pick-no, RunView, run-view, run-none, run-is, run-large}
 use Rattle.digits.specs.declared.Run.{Run}
 use Rattle.numbertext.specs.Numerals.{Signed, NoNumber, NoSigned, NoDash}

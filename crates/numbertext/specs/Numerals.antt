@@ -7,7 +7,7 @@ use mathlib.Core.Path.{_≡_}
 use mathlib.Core.List.{List, [], _∷_, _++_}
 use lib.IntN.{ℤ, pos, negℤ}
 use Rattle.refusals.specs.declared.Refusal.{Refusal}
-use Rattle.refusals.specs.Refusals.{refusal}
+use Rattle.refusals.specs.Promise.{refusal}
 use Rattle.digits.specs.Numerals.{plus, dash, Digit, Numeral, Stops}
 
 -- a number of unsigned 32 bits

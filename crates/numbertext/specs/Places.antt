@@ -12,13 +12,14 @@ use mir.Syntax.{w32}
 use mir.Val.{SFits, toZ, ofZ}
 use borrow.Author.Tests.{leb-true, leb-false, lt-ltb, le-ltb, eq-eqb, ne-eqb}
 use Rattle.refusals.specs.declared.Refusal.{Refusal}
-use Rattle.refusals.specs.Refusals.{refusal}
+use Rattle.refusals.specs.Promise.{refusal}
 use Rattle.whole.specs.declared.Narrowed.{Narrowed}
 use Rattle.whole.specs.declared.Narrowed.the-variants as Narrowed′
 use Rattle.whole.specs.Machine.{back}
-use Rattle.whole.specs.Edge.{signedOf, Narrows, fits, narrows-one}
+use Rattle.whole.specs.Promise.{signedOf, Narrows, fits}
+use Rattle.whole.specs.One.{narrows-one}
 use Rattle.digits.specs.Numerals.{plus, dash, valueOf, Digit}
-use Rattle.digits.specs.Reading.{pick, front, runFrom, runOf}
+use Rattle.digits.specs.Promise.{pick, front, runFrom, runOf}
 use Rattle.digits.specs.Runs.{pick-yes, pick-no, at-cons, front-end, run-empty, run-value, run-within}
 use Rattle.digits.specs.declared.Run.{Run}
 use Rattle.numbertext.specs.Reading.{placed, endedAt, noNumber, toNumber, readNumber, theNumber, limitOf, toSigned, signedRun, readSigned, theSigned, readDash, theDash, readEnd, theEnd}

@@ -5,7 +5,7 @@ use mathlib.Core.List.{List, [], _∷_, _++_}
 use lib.ListN.{length, drop}
 use lib.IntN.{ℤ, pos}
 use Rattle.refusals.specs.declared.Refusal.{Refusal}
-use Rattle.refusals.specs.Refusals.{refusal}
+use Rattle.refusals.specs.Promise.{refusal}
 use Rattle.digits.specs.Numerals.{dash, Stops}
 use Rattle.numbertext.specs.Numerals.{Unsigned, Signed, NoNumber, NoSigned, NoDash}
 use Rattle.numbertext.specs.declared.Number.{Number}

@@ -7,10 +7,10 @@ use lib.ListN.{length, drop}
 use lib.Dec.{ltb, eqb}
 use lib.IntN.{pos}
 use Rattle.refusals.specs.declared.Refusal.{Refusal}
-use Rattle.refusals.specs.Refusals.{refusal}
-use Rattle.whole.specs.Edge.{signedOf}
+use Rattle.refusals.specs.Promise.{refusal}
+use Rattle.whole.specs.Promise.{signedOf}
 use Rattle.digits.specs.Numerals.{plus, dash}
-use Rattle.digits.specs.Reading.{pick, runOf}
+use Rattle.digits.specs.Promise.{pick, runOf}
 use Rattle.digits.specs.declared.Run.{Run}
 use Rattle.numbertext.specs.declared.Number.{Number}
 use Rattle.numbertext.specs.declared.SignedNumber.{SignedNumber}

@@ -55,7 +55,7 @@ use denote.Exit.{yes}
 use denote.Builtin.{SliceRefOf, RefMutOf}
 use denote.Signature.{Signature}
 use denote.Triple.Clauses.{Ended, Clauses, closing}
-use Rattle.reader.specs.Moves.{Moves}
+use Rattle.reader.specs.Promise.{Moves}
 
 -- 'a, and the struct's type at it
 abbrev α : Lft → NamedLft

@@ -3,7 +3,7 @@
 
 ghost use mathlib.Core.Path.{_≡_};
 ghost use Rattle.numbertext.specs.Promise.{NumberAt, SignedAt, DashAt, EndAt};
-ghost use Rattle.reader.specs.Moves.{afterNumber, afterSigned, afterDash, Moves};
+ghost use Rattle.reader.specs.Promise.{afterNumber, afterSigned, afterDash, Moves};
 use numbertext::Dash;
 use numbertext::End;
 use numbertext::Number;

@@ -1,2 +1,2 @@
 -- Refusals by their three numbers.
-pub mod Refusals
+pub mod Promise

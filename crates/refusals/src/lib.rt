@@ -1,9 +1,9 @@
-// What every refused call answers.
+// `Refusal`: what every refused call answers.
 // For users: `Refusal`. For the crates above: the functions that make one.
 
 ghost use mathlib.Core.Path.{_≡_};
 ghost use lib.IntN.{pos};
-ghost use Rattle.refusals.specs.Refusals.{refusal};
+ghost use Rattle.refusals.specs.Promise.{refusal};
 
 // Its number, the place in a text that it is about, and the value that was at fault.
 pub struct Refusal {

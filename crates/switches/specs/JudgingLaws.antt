@@ -1,17 +1,18 @@
--- From the bounds of a biased day, row by row, to its judgement.
+-- From the bounds of a biased day, row by row, to its judgement, and what that rules out.
 -- Assumes nothing.
 use mathlib.Core.Path.{_≡_, _∙_, ap, subst}
 use Prim.Native.Nat.{ℕ, _<_, _≤_, _^_}
 use native.Mathlib.Omega.{arith}
 use lib.IntN.{ℤ}
-use Rattle.whole.specs.Biased.{unbias}
+use Rattle.whole.specs.Promise.{unbias}
 use Rattle.whole.specs.Integers.{unbias-le}
 use Rattle.days.specs.BiasedDays.{dayBias, day}
-use Rattle.days.specs.ReformationRules.{Outcome, Judged, TableRow, row-1, row-2, row-3, row-4, row-5}
+use Rattle.days.specs.ReformationRules.{Outcome, accepted, Judged, TableRow, row-1, row-2, row-3, row-4, row-5}
 use Rattle.days.specs.ReformationTable.{fits-biased, table-holds}
 use Rattle.inner.specs.Natural.{biasedDay}
 use Rattle.inner.specs.Laws.{biased-day, raised-day-biased}
-use Rattle.switches.specs.Judging.{Judges, accepts-biased, refuses-with-1, refuses-with-2}
+use Rattle.switches.specs.Promise.{Judges, accepts-biased, refuses-with-1, refuses-with-2}
+use Rattle.switches.specs.One.{apart}
 use Rattle.switches.specs.declared.reformation.Judgement.the-variants.{Accepted, Refused}
 
 module _ {r : ℤ} (x : ℕ) (e : unbias (2 ^ 31) x ≡ r) (h : x < 2 ^ 32) where
@@ -32,3 +33,8 @@ module _ {r : ℤ} (x : ℕ) (e : unbias (2 ^ 31) x ≡ r) (h : x < 2 ^ 32) wher
 
   pub past-the-last : 786_514_249_530 < biasedDay x → Judges r (Refused 2)
   past-the-last f = refuses-with-2 (by-row (row-5 (unbias-le dayBias 786_514_249_531 (biasedDay x) f) (unbias-le dayBias (biasedDay x) 786_514_293_589 (omega arith))))
+
+-- a day that is refused is no accepted reformation
+pub refused-not : {r : ℤ} {n : ℕ} → Judges r (Refused n) → Judged r accepted → ⊥
+refused-not (refuses-with-1 x) y = omega (arith, apart x y)
+refused-not (refuses-with-2 x) y = omega (arith, apart x y)

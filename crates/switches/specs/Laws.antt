@@ -7,7 +7,7 @@ use native.Mathlib.Omega.{arith}
 use native.Mathlib.Numerals.{add-one}
 use lib.Dec.{T, ltb, leb, ltb→lt, leb→le}
 use lib.IntN.{pos}
-use Rattle.refusals.specs.Refusals.{refusal}
+use Rattle.refusals.specs.Promise.{refusal}
 use Rattle.days.specs.DayByDay as D
 use Rattle.days.specs.DayByDay.{monthLength, Month}
 use Rattle.days.specs.BiasedDays.{BiasedYear}
@@ -15,7 +15,7 @@ use Rattle.days.specs.ClosedYear.{yearLength, year-most}
 use Rattle.days.specs.ClosedStarts.{Starts}
 use Rattle.days.specs.ClosedJulian as J
 use Rattle.days.specs.ClosedGregorian as G
-use Rattle.days.specs.ClosedNumbers.{There, daysBefore}
+use Rattle.days.specs.ClosedNumbers.{There, daysBefore, ThereIn}
 use Rattle.days.specs.ReformationTable.{there-too}
 use Rattle.days.specs.ReckoningSteps.{month-some}
 use Rattle.days.specs.ClosedRuns.{top, yearFirst, firstDay, first-julian, first-gregorian, first-cases, julianMonth, gregorianMonth, monthFirst, monthPast}
@@ -32,7 +32,8 @@ use Rattle.inner.specs.declared.Spot as S
 use Rattle.inner.specs.Spots.{At, spot, at-number}
 use Rattle.switches.specs.declared.Found.the-variants as Found′
 use Rattle.switches.specs.declared.Read.the-variants as Read′
-use Rattle.switches.specs.Spots.{YearSpan, YearIn, begins-old, begins-new, MonthIn, monthSpan, SpansMonth, spans-month, ThereIn, Reads, reads-at, reads-none, NoneBelow, ReadsBelow, below-at, below-none, Finds, finds-old, finds-new, finds-gap, finds-none}
+use Rattle.switches.specs.Promise.{YearSpan, YearIn, begins-old, begins-new, monthSpan, SpansMonth, spans-month, NoneBelow, Finds, finds-old, finds-new, finds-gap, finds-none}
+use Rattle.switches.specs.Private.{MonthIn, Reads, reads-at, reads-none, ReadsBelow, below-at, below-none}
 
 -- ---- The day of a label
 module _ (leapAt : ℕ → Bool) (start : ℕ → ℕ) (y m d : ℕ) {b : Bool} {t : ℕ} (h : BiasedYear (biasedYear y)) (e : b ≡ leapAt (biasedYear y)) (f : t ≡ start (biasedYear y)) where

@@ -1,19 +1,26 @@
--- What is said of a label, of a year and of a month allows one answer, whatever the day on which the calendar switches.
+-- A promise allows one answer, whatever the day on which the calendar switches.
 -- Assumes nothing.
 use mathlib.Core.Path.{_≡_, refl, sym, _∙_, ap}
 use mathlib.Core.Bool.{Bool}
 use Prim.Native.Nat.{ℕ, _-_, _≤_, _<_}
 use native.Mathlib.Omega.{arith}
+use lib.IntN.{ℤ}
+use Rattle.whole.specs.Biased.{unbias-injective}
+use Rattle.days.specs.BiasedDays.{dayBias}
 use Rattle.days.specs.ClosedJulian as J
 use Rattle.days.specs.ClosedGregorian as G
 use Rattle.days.specs.ClosedNumbers.{number}
+use Rattle.days.specs.ReformationRules.{Outcome, accepted, refused-1, refused-2, Judged}
+use Rattle.days.specs.ReformationTable.{judged-one}
 use Rattle.inner.specs.Natural.{biasedYear}
 use Rattle.switches.specs.declared.PlainYear.{PlainYear}
 use Rattle.switches.specs.declared.Spanned.{Spanned}
 use Rattle.switches.specs.declared.Found.{Found}
 use Rattle.switches.specs.declared.Found.the-variants as Found′
+use Rattle.switches.specs.declared.reformation.Judgement.{Judgement}
+use Rattle.switches.specs.declared.reformation.Judgement.the-variants.{Accepted}
 use Rattle.inner.specs.Spots.{At, spot, at-number}
-use Rattle.switches.specs.Spots.{YearSpan, YearIn, begins-old, begins-new, SpansMonth, spans-month, no-month, NoneBelow, Finds, finds-old, finds-new, finds-gap, finds-none}
+use Rattle.switches.specs.Promise.{YearSpan, YearIn, begins-old, begins-new, SpansMonth, spans-month, no-month, NoneBelow, Finds, finds-old, finds-new, finds-gap, finds-none, Judges, accepts-biased, refuses-with-1, refuses-with-2}
 
 pub year-span-one : (r y : ℕ) {a b i j : ℕ} → YearSpan r y a b → YearSpan r y i j → (a ≡ i) × (b ≡ j)
 year-span-one r y s t = (s .first-is ∙ sym (t .first-is), s .past-is ∙ sym (t .past-is))
@@ -72,3 +79,24 @@ finds-one r y m d a b (finds-none s n) (finds-old h t) = absurd (not-below y h t
 finds-one r y m d a b (finds-none s n) (finds-new h t i) = absurd (s (t .there))
 finds-one r y m d a b (finds-none s n) (finds-gap t i h) = absurd (s t)
 finds-one r y m d a b (finds-none s n) (finds-none t i) = refl
+
+-- ---- The judgement of a day of reformation
+-- an outcome is one of the three
+abbrev rank : Outcome → ℕ
+rank accepted = 0
+rank refused-1 = 1
+rank refused-2 = 2
+
+pub apart : {r : ℤ} {o p : Outcome} → Judged r o → Judged r p → rank o ≡ rank p
+apart a b = ap rank (judged-one a b)
+
+pub judges-one : (r : ℤ) (a b : Judgement) → Judges r a → Judges r b → a ≡ b
+judges-one r a b (accepts-biased {k} x e) (accepts-biased {k = l} y f) = ap Accepted (unbias-injective dayBias k l (e ∙ sym f))
+judges-one r a b (accepts-biased x e) (refuses-with-1 y) = absurd (omega (arith, apart x y))
+judges-one r a b (accepts-biased x e) (refuses-with-2 y) = absurd (omega (arith, apart x y))
+judges-one r a b (refuses-with-1 x) (accepts-biased y f) = absurd (omega (arith, apart x y))
+judges-one r a b (refuses-with-1 x) (refuses-with-1 y) = refl
+judges-one r a b (refuses-with-1 x) (refuses-with-2 y) = absurd (omega (arith, apart x y))
+judges-one r a b (refuses-with-2 x) (accepts-biased y f) = absurd (omega (arith, apart x y))
+judges-one r a b (refuses-with-2 x) (refuses-with-1 y) = absurd (omega (arith, apart x y))
+judges-one r a b (refuses-with-2 x) (refuses-with-2 y) = refl

@@ -1,5 +1,6 @@
-// A calendar that switches from the Julian reckoning to the Gregorian one on a biased day, on naturals: which day bears a label, and where a
-// year or a month begins and ends. A calendar of one reckoning switches after every day that is looked at, or before all of them.
+// Calendars that switch from Julian to Gregorian dates on some day, with days and years as biased natural numbers: which day bears a label, and where
+// a year or a month begins and ends. A calendar of one reckoning is one that switches after every day in question, or before all of them.
+// For the crates above.
 pub mod reformation;
 
 ghost use mathlib.Core.Path.{_≡_};
@@ -7,7 +8,8 @@ ghost use Prim.Native.Nat.{_<_};
 ghost use Rattle.days.specs.ClosedRuns.{firstDay};
 ghost use Rattle.days.specs.DayByDay.{Month};
 ghost use Rattle.inner.specs.Natural.{biasedYear};
-ghost use Rattle.switches.specs.Spots.{Reads, ReadsBelow, Finds, YearSpan, YearIn, MonthIn, SpansMonth};
+ghost use Rattle.switches.specs.Private.{Reads, ReadsBelow, MonthIn};
+ghost use Rattle.switches.specs.Promise.{Finds, YearSpan, YearIn, SpansMonth};
 use inner::Spot;
 use monthdays::DayOrdinal;
 use refusals::Refusal;

@@ -1,6 +1,6 @@
-// The days on which a calendar can switch from Julian dates to Gregorian ones, and why it cannot on the others.
+// On which days a calendar can switch from Julian to Gregorian dates, and why it cannot switch on any other.
 
-ghost use Rattle.switches.specs.Judging.{Judges};
+ghost use Rattle.switches.specs.Promise.{Judges};
 
 // The table of reformations, as biased days. Day -2147483647 is the first with a day of 32 bits before it.
 const FIRST_AFTER_A_DAY: u64 = 782_219_326_295;

@@ -6,7 +6,8 @@ use Prim.Native.Nat.{ℕ, suc, _+_, _-_, _*_, _/_, _%_, _<_, _≤_, _^_}
 use native.Mathlib.Omega.{arith}
 use lib.IntN.{ℤ, pos, negℤ, _+ℤ_, _-ℤ_, _*ℤ_}
 use Rattle.whole.specs.Tests.{lt-or-ge}
-use Rattle.whole.specs.Biased.{unbias, unbias-add, unbias-below, unbias-above, unbias-injective}
+use Rattle.whole.specs.Biased.{unbias-add, unbias-below, unbias-above, unbias-injective}
+use Rattle.whole.specs.Promise.{unbias}
 use Rattle.whole.specs.Machine.{Raised, rise, unbias-more, unbias-both}
 use Rattle.whole.specs.Edge.{unbias-fits}
 use Rattle.days.specs.DayByDay.{Is32Bit, UnixTime}
@@ -123,7 +124,3 @@ timed-refused c a (refuses x) = passes a (refuses x)
 
 pub timed-row : (c : Calendar) {t n : ℤ} {s : ℕ} {d : Date} → Accepted c → Unix2Jdn t (DayTime′.At n s) → AtJdn c n (Dated′.Date d) → AtUnixTime c t (Timed′.At d s)
 timed-row c a (passes o (day-time-of u)) (passes b (record-of i)) = passes a (passes o (timed-of u i))
-
--- an accepted calendar refuses no day
-pub never-refused : (c : Calendar) {n : ℤ} {f : Refusal} → Accepted c → AtJdn c n (Dated′.Refused f) → ⊥
-never-refused c a (refuses x) = x a

@@ -5,14 +5,15 @@ use Prim.Native.Nat.{ℕ, suc, _+_, _-_, _*_, _<_}
 use native.Mathlib.Omega.{arith}
 use lib.IntN.{ℤ, pos, _+ℤ_, _-ℤ_, _*ℤ_}
 use lib.Signed.{mag}
-use Rattle.whole.specs.Biased.{unbias, unbias-injective}
+use Rattle.whole.specs.Biased.{unbias-injective}
+use Rattle.whole.specs.Promise.{unbias}
 use Rattle.whole.specs.Machine.{Raised, rise}
 use Rattle.days.specs.DayByDay.{Is32Bit, UnixTime}
 use Rattle.unixtime.specs.declared.seconds.DaySecond.{DaySecond}
 use Rattle.unixtime.specs.Promise.{On32BitDay, DaySecondOf, at, outside-32, DayTimeOf, day-time-of, Unix2Jdn, TimedOf, timed-of, AtUnixTime}
 use Rattle.unixtime.specs.Laws.{time-of}
 use Rattle.calendar.specs.declared.Calendar.{Calendar}
-use Rattle.calendar.specs.Rows.{One, unless-one}
+use Rattle.calendar.specs.RowLaws.{One, unless-one}
 use Rattle.calendar.specs.One.{record-one}
 use Rattle.calendar.specs.Calendars.{IsRecord}
 

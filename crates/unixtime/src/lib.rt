@@ -1,4 +1,4 @@
-// Unix time: the day and the date of a number of seconds since 1970, and the seconds into that day.
+// Unix time: from seconds since 1970 to a day, a date and the seconds into that day, and from a day to the seconds at its start.
 // For users: `unix2jdn`, `jdn2unix`, `at_unix_time`. For the crates above: `seconds`.
 pub mod seconds;
 

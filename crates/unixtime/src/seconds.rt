@@ -1,5 +1,5 @@
-// The day and the seconds into it of a number of seconds since 1970, and back. The seconds are counted as naturals from the start of the
-// lowest day, so that a quotient is a floor on both sides of 1970.
+// From seconds since 1970 to a day and the seconds into it, and back. Seconds are counted from the start of the lowest day, so that a quotient rounds
+// down on both sides of 1970.
 
 ghost use Rattle.days.specs.DayByDay.{UnixTime};
 ghost use Rattle.unixtime.specs.Promise.{DaySecondOf};

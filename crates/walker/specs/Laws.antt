@@ -6,8 +6,7 @@ use lib.IntN.{ℤ}
 use Rattle.calendar.specs.declared.Calendar.{Calendar}
 use Rattle.calendar.specs.declared.Date.{Date}
 use Rattle.calendar.specs.declared.Dated.the-variants as Dated′
-use Rattle.refusals.specs.declared.Refusal.{Refusal}
-use Rattle.calendar.specs.Calendars.{Accepted, IsRecord, Genuine}
+use Rattle.calendar.specs.Calendars.{IsRecord, Genuine}
 use Rattle.calendar.specs.Rows.{refuses, passes}
 use Rattle.calendar.specs.Promise.{record-of, AtJdn, Next}
 use Rattle.calendar.specs.declared.Near.the-variants as Near′
@@ -17,7 +16,7 @@ use Rattle.ways.specs.declared.Kind.{Kind}
 use Rattle.ways.specs.declared.Kind.the-variants.{Later, Earlier, AndLater, AndEarlier}
 use Rattle.ways.specs.declared.Step.{Step}
 use Rattle.ways.specs.declared.Step.the-variants as Step′
-use Rattle.ways.specs.Ways.{goesLater, toward, givesHeld, EndedAt, FlagAt, NextStep, made-up, ended, goes}
+use Rattle.ways.specs.Promise.{goesLater, toward, givesHeld, EndedAt, FlagAt, NextStep, made-up, ended, goes}
 use Rattle.ways.specs.Laws.{ahead-is, gives-held, gives-ahead, not-both}
 use Rattle.walker.specs.declared.Walker.{Walker}
 use Rattle.walker.specs.declared.Moved.{Moved}
@@ -25,18 +24,9 @@ use Rattle.walker.specs.Promise.{GenuineWalker, walker, moved, unmoved, 
 use Rattle.walker.specs.Private.{Gave, gave}
 
 -- ---- Records
-pub record-genuine : {c : Calendar} {n : ℤ} {d : Date} → Accepted c → IsRecord c n d → Genuine d
-record-genuine {c} {n} {d} a i = record {
-  accepted = subst Accepted (sym (i .calendar-is)) a;
-  is-record = subst (λ (z : ℤ). IsRecord (d .calendar) z d) (sym (i .day-is)) (subst (λ (b : Calendar). IsRecord b n d) (sym (i .calendar-is)) i);
-}
-
--- an accepted calendar has a record of each day
-pub has-record : {c : Calendar} {n : ℤ} {d : Date} → AtJdn c n (Dated′.Date d) → IsRecord c n d
-has-record (passes b (record-of i)) = i
-
-pub never-refused : {c : Calendar} {n : ℤ} {f : Refusal} → Accepted c → AtJdn c n (Dated′.Refused f) → ⊥
-never-refused a (refuses x) = x a
+-- the record that was given is that of the day
+pub is-given : {c : Calendar} {n : ℤ} {d : Date} → AtJdn c n (Dated′.Date d) → IsRecord c n d
+is-given (passes b (record-of i)) = i
 
 -- ---- The rows of a step
 module _ (w : Walker) where

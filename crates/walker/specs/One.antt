@@ -4,12 +4,12 @@ use mathlib.Core.Path.{_≡_, subst}
 use mathlib.Core.Bool.{Bool}
 use Rattle.calendar.specs.declared.Date.{Date}
 use Rattle.calendar.specs.Calendars.{IsRecord}
-use Rattle.calendar.specs.Rows.{One, unless-one, if-one}
+use Rattle.calendar.specs.RowLaws.{One, unless-one, if-one}
 use Rattle.calendar.specs.One.{record-one}
 use Rattle.ways.specs.declared.Kind.{Kind}
 use Rattle.walker.specs.declared.Walker.{Walker}
 use Rattle.ways.specs.One.{ended-one}
-use Rattle.ways.specs.Ways.{gives, toward, holds}
+use Rattle.ways.specs.Promise.{gives, toward, holds}
 use Rattle.walker.specs.Promise.{Made, made, Makes, Moves, moves, Steps}
 
 made-one : (k : Kind) (d : Date) → One (Made k d)

@@ -11,7 +11,7 @@ use Rattle.calendar.specs.Calendars.{IsRecord, Genuine}
 use Rattle.calendar.specs.Rows.{Unless, If}
 use Rattle.calendar.specs.Promise.{refused, made-up}
 use Rattle.ways.specs.declared.Kind.{Kind}
-use Rattle.ways.specs.Ways.{toward, gives, EndedAt, holds, FlagAt}
+use Rattle.ways.specs.Promise.{toward, gives, EndedAt, holds, FlagAt}
 use Rattle.walker.specs.declared.Walker.{Walker}
 use Rattle.walker.specs.declared.Walked.{Walked}
 use Rattle.walker.specs.declared.Walked.the-variants as Walked′

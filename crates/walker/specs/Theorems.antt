@@ -20,10 +20,10 @@ use Rattle.ways.specs.declared.Kind.the-variants.{Later, Earlier, AndLater, And
 use Rattle.walker.specs.declared.Walker.{Walker}
 use Rattle.walker.specs.declared.Walked.the-variants as Walked′
 use Rattle.walker.specs.declared.Moved.{Moved}
-use Rattle.ways.specs.Ways.{toward, gives, holds, FlagAt}
+use Rattle.ways.specs.Promise.{toward, gives, holds, FlagAt}
 use Rattle.ways.specs.Laws.{not-both}
 use Rattle.walker.specs.Promise.{GenuineWalker, walker, made, Makes, moves, Steps}
-use Rattle.walker.specs.Laws.{record-genuine}
+use Rattle.calendar.specs.Theorems.{record-genuine}
 
 -- ---- Any number of calls
 

@@ -1,5 +1,5 @@
-// Walkers: a walker goes from a date to later dates, or to earlier ones, and gives one date for each step. It is ended as soon as it has
-// no date left to give. A step that is refused changes nothing in it.
+// Walkers, which go from a date to later or to earlier dates, one date a step. A walker has ended as soon as it has no date left to give. A refused
+// step leaves it as it was.
 // For users.
 
 ghost use mathlib.Core.Path.{_≡_};

@@ -9,13 +9,13 @@ use borrow.Author.Tests.{eqb-true, eqb-false}
 use lib.Dec.{eqb}
 use lib.IntN.{ℤ, sucℤ, predℤ}
 use Rattle.whole.specs.Tests.{true-or-false, lt-or-ge}
-use Rattle.whole.specs.Biased.{unbias}
+use Rattle.whole.specs.Promise.{unbias}
 use Rattle.days.specs.DayByDay.{Is32Bit}
 use Rattle.days.specs.ClosedEnds.{suc-is, pred-is, suc-far, pred-far, raised-fits}
 use Rattle.ways.specs.declared.Kind.{Kind}
 use Rattle.ways.specs.declared.Kind.the-variants.{Later, Earlier, AndLater, AndEarlier}
 use Rattle.ways.specs.declared.Step.the-variants as Step′
-use Rattle.ways.specs.Ways.{goesLater, toward, beside, Inside, IsStaying, givesHeld, gives, EndedAt, NextStep, made-up, goes}
+use Rattle.ways.specs.Promise.{goesLater, toward, beside, Inside, IsStaying, givesHeld, gives, EndedAt, NextStep, made-up, goes}
 
 -- ---- The kinds of walkers
 pub toward-later : (k : Kind) (n : ℤ) → goesLater k ≡ true → toward k n ≡ sucℤ n

@@ -1,4 +1,4 @@
--- The ways of walkers. A reader's file is `Ways`; `One` shows that what is said there allows one answer, and `Laws` has what the proofs go by.
-pub mod Ways
+-- The ways of walkers. A reader's file is `Promise`. `One` shows that a promise allows one answer, and `Laws` has what the proofs go by.
+pub mod Promise
 pub mod One
 pub mod Laws

@@ -4,10 +4,12 @@ use mathlib.Core.Path.{_≡_, refl}
 use mathlib.Core.Bool.{Bool, true, false}
 use Prim.Native.Nat.{ℕ}
 use lib.IntN.{ℤ}
+use Rattle.whole.specs.One.{whether-one}
+use Rattle.days.specs.DayByDay.{Is32Bit}
 use Rattle.ways.specs.declared.Neighbour.{Neighbour}
 use Rattle.ways.specs.declared.Kind.{Kind}
 use Rattle.ways.specs.declared.Step.{Step}
-use Rattle.ways.specs.Ways.{IsNeighbour, there, nowhere, toward, gives, EndedAt, IsStaying, NextStep, made-up, ended, goes}
+use Rattle.ways.specs.Promise.{IsNeighbour, there, nowhere, toward, beside, Inside, gives, EndedAt, IsStaying, NextStep, made-up, ended, goes}
 
 pub ended-one : (n : ℤ) (a b : Bool) → EndedAt n a → EndedAt n b → a ≡ b
 ended-one n true true p q = refl
@@ -22,10 +24,7 @@ neighbour-one n a b (nowhere x) (there f) = absurd (x f)
 neighbour-one n a b (nowhere x) (nowhere y) = refl
 
 pub staying-one : (l : Bool) (d : ℕ) (n : ℤ) (a b : Bool) → IsStaying l d n a → IsStaying l d n b → a ≡ b
-staying-one l d n true true p q = refl
-staying-one l d n true false p q = absurd (q p)
-staying-one l d n false true p q = absurd (p q)
-staying-one l d n false false p q = refl
+staying-one l d n = whether-one (Inside l d × Is32Bit (beside l n))
 
 pub next-step-one : (k : Kind) (n : ℤ) (e : Bool) (a b : Step) → NextStep k n e a → NextStep k n e b → a ≡ b
 next-step-one k n e a b (made-up x) (made-up y) = refl

@@ -1,10 +1,10 @@
-// The four ways that walkers go, by day numbers: which day lies ahead, which day a step gives, which day the walker holds after it, and when
-// it is ended.
+// The four kinds of walkers, on day numbers alone: which day lies ahead, which day a step gives, which day the walker holds after it, and when the
+// walker has ended.
 // For users: `Kind`, the kind of a walker. For the crates above: all else.
 
 ghost use mathlib.Core.Path.{_≡_};
 ghost use Rattle.days.specs.DayByDay.{Is32Bit};
-ghost use Rattle.ways.specs.Ways.{goesLater, toward, IsNeighbour, givesHeld, gives, EndedAt, IsStaying, NextStep};
+ghost use Rattle.ways.specs.Promise.{goesLater, toward, IsNeighbour, givesHeld, gives, EndedAt, IsStaying, NextStep};
 use whole::lowered;
 use whole::raised;
 

@@ -1,4 +1,4 @@
-// The days of the week, from 1, a Monday, to 7.
+// The weekday of a day number, from 1 (Monday) to 7 (Sunday).
 // For users.
 
 ghost use mathlib.Core.Path.{_≡_};

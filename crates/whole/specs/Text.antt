@@ -9,3 +9,10 @@ use Prim.Native.String.{String, [] as none, _∷_ as _then_}
 unfoldable pub bytes : String → List ℕ
 bytes none = []
 bytes (c then s) = code c ∷ bytes s
+
+-- the bytes that part columns and lines
+abbrev pub tab : ℕ
+tab = 9
+
+abbrev pub newline : ℕ
+newline = 10

@@ -17,8 +17,8 @@ use Rattle.writer.specs.Promise.{put, Copies, copied, Decimal, digitsOf,
 use Rattle.writer.specs.declared.buffer.Copied.{Copied}
 use Rattle.digits.specs.Numerals.{valueFrom, valueOf, Digit, Digits, dash}
 use Rattle.refusals.specs.declared.Refusal.{Refusal}
-use Rattle.refusals.specs.Refusals.{refusal}
-use Rattle.whole.specs.Edge.{isNegative}
+use Rattle.refusals.specs.Promise.{refusal}
+use Rattle.whole.specs.Promise.{isNegative}
 use Rattle.writer.specs.declared.Written.{Written}
 
 -- ---- a buffer

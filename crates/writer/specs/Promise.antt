@@ -8,7 +8,7 @@ use Rattle.writer.specs.declared.buffer.Copied.{Copied}
 use mathlib.Core.Path.{_≡_}
 use Rattle.digits.specs.Numerals.{Numeral, dash}
 use lib.IntN.{ℤ, pos, negsuc}
-use Rattle.refusals.specs.Refusals.{refusal}
+use Rattle.refusals.specs.Promise.{refusal}
 use Rattle.writer.specs.declared.Written.{Written}
 use mathlib.Core.Bool.{Bool, true, false}
 

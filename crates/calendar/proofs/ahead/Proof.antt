@@ -4,7 +4,7 @@ use mathlib.Core.Path.{subst}
 use borrow.Author.Needs.{needs}
 use lib.IntN.{ℤ}
 use Rattle.ways.specs.Laws.{ahead-is}
-use Rattle.ways.specs.Ways.{goesLater}
+use Rattle.ways.specs.Promise.{goesLater}
 use Rattle.calendar.specs.declared.Dated.the-variants as Dated′
 use Rattle.calendar.specs.InMonth.{near-next}
 use Rattle.calendar.specs.Promise.{Next}

@@ -3,7 +3,7 @@
 use Prim.Native.Nat.{_-_}
 use borrow.Author.Needs.{needs, sfits-of}
 use mir.Facts.{toZ-ofZ}
-use Rattle.ways.specs.Ways.{toward, IsNeighbour}
+use Rattle.ways.specs.Promise.{toward, IsNeighbour}
 use Rattle.calendar.specs.Calendars.{Genuine}
 use Rattle.calendar.specs.Laws.{next-row, nowhere-outside, day-there}
 use Rattle.calendar.specs.Rows.{refuses, passes}

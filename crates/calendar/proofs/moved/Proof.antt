@@ -4,7 +4,7 @@ use mathlib.Core.Path.{_≡_, refl, _∙_, ap}
 use Prim.Native.Nat.{_^_}
 use borrow.Author.Needs.{needs, sfits-of}
 use mir.Facts.{toZ-ofZ}
-use Rattle.whole.specs.Biased.{unbias}
+use Rattle.whole.specs.Promise.{unbias}
 use Rattle.calendar.specs.InMonth.{beside-room, beside-is}
 use Rattle.calendar.proofs.moved.Statement.{statement}
 use Rattle.calendar.proofs.moved.Tie as tie

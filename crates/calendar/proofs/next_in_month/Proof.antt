@@ -4,7 +4,7 @@ use mathlib.Core.Bool.{true, false}
 use borrow.Author.Needs.{needs, sfits-of}
 use mir.Facts.{toZ-ofZ}
 use Rattle.days.specs.DayByDay.{Is32Bit}
-use Rattle.ways.specs.Ways.{beside, Inside}
+use Rattle.ways.specs.Promise.{beside, Inside}
 use Rattle.calendar.specs.InMonth.{Usual, usual-movable, near-found, not-staying, not-usual}
 use Rattle.calendar.proofs.next_in_month.Statement.{statement}
 use Rattle.calendar.proofs.next_in_month.Tie as tie

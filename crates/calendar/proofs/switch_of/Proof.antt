@@ -6,7 +6,7 @@ use lib.IntN.{ℤ}
 use borrow.Author.Needs.{needs, sfits-of}
 use mir.Facts.{toZ-ofZ}
 use Rattle.days.specs.ClosedRuns.{julian-runs, gregorian-runs}
-use Rattle.switches.specs.Judging.{Judges}
+use Rattle.switches.specs.Promise.{Judges}
 use Rattle.calendar.specs.Laws.{switch-accepted, switch-refused}
 use Rattle.calendar.specs.Natural.{SwitchIs, switches-at}
 use Rattle.calendar.specs.declared.Calendar.the-variants.{Reforming}

@@ -3,7 +3,7 @@
 use mathlib.Core.Path.{sym, ap, _∙_}
 use mathlib.Core.Bool.{Bool, false}
 use lib.Dec.{leb}
-use Rattle.digits.specs.Reading.{pick}
+use Rattle.digits.specs.Promise.{pick}
 use borrow.Author.Tests.{le-leb, lt-leb}
 use Rattle.datetext.proofs.is_month.Statement.{statement}
 use Rattle.datetext.proofs.is_month.Tie as tie

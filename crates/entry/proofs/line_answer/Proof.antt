@@ -4,7 +4,7 @@ use Rattle.bytesearch.specs.Laws.{up-to-inside}
 use Rattle.entry.specs.Laws.{entry-from, no-calendar}
 use native.Mathlib.Omega.{arith}
 use Rattle.calendar.specs.Rows.{refuses, passes}
-use Rattle.entry.specs.Entry.{by-text}
+use Rattle.entry.specs.Promise.{by-text}
 use borrow.Author.Needs.{needs}
 use Rattle.entry.proofs.line_answer.Statement.{statement}
 use Rattle.entry.proofs.line_answer.Tie as tie

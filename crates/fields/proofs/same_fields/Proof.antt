@@ -6,7 +6,7 @@ use borrow.Author.Needs.{sfits-of}
 use mir.Facts.{toZ-ofZ}
 use mir.Syntax.{w32}
 use mir.Val.{toZ, ofZ}
-use Rattle.fields.specs.Same.{all-same}
+use Rattle.fields.specs.Laws.{all-same}
 use Rattle.fields.specs.declared.Fields.{Fields}
 use Rattle.fields.proofs.same_fields.Statement.{statement}
 use Rattle.fields.proofs.same_fields.Tie as tie

@@ -7,7 +7,7 @@ use borrow.Author.Needs.{needs}
 use Rattle.days.specs.ClosedJulian as J
 use Rattle.days.specs.ClosedGregorian as G
 use Rattle.days.specs.ClosedRange.{gregorian-year}
-use Rattle.days.specs.ClosedStarts.{Spot}
+use Rattle.days.specs.ClosedStarts.{InYear}
 use Rattle.days.specs.ClosedYear.{year-most}
 use Rattle.inner.specs.Natural.{biasedDay, VirtualPoint}
 use Rattle.inner.specs.Laws.{raised-day-biased, spot-again, virtual-less, virtual-some, virtual-spot}
@@ -15,9 +15,9 @@ use Rattle.inner.proofs.gregorian_place.Statement.{statement}
 use Rattle.inner.proofs.gregorian_place.Tie as tie
 
 -- the day of the cycle, and the virtual days before it
-spot : (d : ℕ) {t y o : ℕ} → VirtualPoint ((d + 782_203_220_162) % 146_097) t → Spot J.leapAt J.start (t - 1) y o
-    → Spot G.leapAt G.start (biasedDay d) (400 * ((d + 782_203_220_162) / 146_097) + y) o
-spot d {t} {y} {o} v p = subst (λ (k : ℕ). Spot G.leapAt G.start (biasedDay d) (400 * (k / 146_097) + y) o) (less d)
+spot : (d : ℕ) {t y o : ℕ} → VirtualPoint ((d + 782_203_220_162) % 146_097) t → InYear J.leapAt J.start (t - 1) y o
+    → InYear G.leapAt G.start (biasedDay d) (400 * ((d + 782_203_220_162) / 146_097) + y) o
+spot d {t} {y} {o} v p = subst (λ (k : ℕ). InYear G.leapAt G.start (biasedDay d) (400 * (k / 146_097) + y) o) (less d)
     (virtual-spot (biasedDay d) (omega arith) (subst (λ (k : ℕ). VirtualPoint (k % 146_097) t) (sym (less d)) v) p)
   where
     less : (d : ℕ) → biasedDay d - 16_106_132 ≡ d + 782_203_220_162

@@ -4,7 +4,7 @@ use Rattle.linetext.specs.Laws.{whole-column}
 use mathlib.Core.Path.{ap, _∙_}
 use lib.IntN.{natAbs}
 use mir.Facts.{toZ-ofZ}
-use Rattle.whole.specs.Edge.{isNegative}
+use Rattle.whole.specs.Promise.{isNegative}
 use borrow.Author.Needs.{needs}
 use Rattle.linetext.proofs.put_integer.Statement.{statement}
 use Rattle.linetext.proofs.put_integer.Tie as tie

@@ -5,7 +5,7 @@ use native.Mathlib.Omega.{arith}
 use borrow.Author.Needs.{needs}
 use lib.IntN.{natAbs}
 use mir.Facts.{toZ-ofZ}
-use Rattle.whole.specs.Edge.{isNegative}
+use Rattle.whole.specs.Promise.{isNegative}
 use Rattle.linetext.specs.Laws.{text-as, whole-column}
 use Rattle.linetext.proofs.put_year.Statement.{statement}
 use Rattle.linetext.proofs.put_year.Tie as tie

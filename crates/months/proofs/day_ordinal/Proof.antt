@@ -8,7 +8,7 @@ use mir.Facts.{toZ-ofZ}
 use Rattle.days.specs.BiasedDays.{year}
 use Rattle.inner.specs.Laws.{biased-year, raised-year-biased}
 use Rattle.inner.specs.Natural.{biasedYear}
-use Rattle.switches.specs.Spots.{Finds}
+use Rattle.switches.specs.Promise.{Finds}
 use Rattle.switches.specs.declared.Found.the-variants as Found′
 use Rattle.calendar.specs.declared.Counted.the-variants as Counted′
 use Rattle.months.specs.Laws.{span-is, span-refused, found-room, found-from, found-few, place-row, refused-place}

@@ -3,7 +3,7 @@
 use mathlib.Core.Path.{ap, _∙_}
 use mir.Facts.{toZ-ofZ}
 use borrow.Author.Needs.{needs, sfits-of}
-use Rattle.refusals.specs.Refusals.{refusal}
+use Rattle.refusals.specs.Promise.{refusal}
 use Rattle.refusals.proofs.refusal_at.Statement.{statement}
 use Rattle.refusals.proofs.refusal_at.Tie as tie
 

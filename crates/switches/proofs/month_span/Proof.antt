@@ -7,7 +7,7 @@ use Rattle.days.specs.ClosedGregorian as G
 use Rattle.days.specs.ClosedJulian as J
 use Rattle.inner.specs.Natural.{biasedYear}
 use Rattle.switches.specs.Laws.{plain-first, plain-past, month-span-is}
-use Rattle.switches.specs.Spots.{no-month}
+use Rattle.switches.specs.Promise.{no-month}
 use Rattle.switches.proofs.month_span.Statement.{statement}
 use Rattle.switches.proofs.month_span.Tie as tie
 

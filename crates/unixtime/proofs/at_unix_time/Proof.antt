@@ -6,7 +6,8 @@ use mir.Facts.{toZ-ofZ}
 use Rattle.calendar.specs.Calendars.{Accepted}
 use Rattle.calendar.specs.Laws.{switch-made-up, switch-runs}
 use Rattle.calendar.specs.Rows.{refuses}
-use Rattle.unixtime.specs.Laws.{timed-refused, timed-row, never-refused}
+use Rattle.unixtime.specs.Laws.{timed-refused, timed-row}
+use Rattle.calendar.specs.Theorems.{never-refused}
 use Rattle.unixtime.proofs.at_unix_time.Statement.{statement}
 use Rattle.unixtime.proofs.at_unix_time.Tie as tie
 
@@ -54,7 +55,7 @@ returns-2 c =
 returns-3 : tie.Need-returns-3
 returns-3 c =
     let d = c .before .before .before in
-    absurd (never-refused _ (accepted (d .before .before .before .before .before)) (rw (c .before .refusal2 .given .1) at (d .at-jdn .ensures)))
+    absurd (never-refused (accepted (d .before .before .before .before .before)) (rw (c .before .refusal2 .given .1) at (d .at-jdn .ensures)))
 
 returns-4 : tie.Need-returns-4
 returns-4 c =

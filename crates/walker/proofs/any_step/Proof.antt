@@ -6,7 +6,7 @@ use borrow.Author.Needs.{needs, sfits-of}
 use mir.Facts.{toZ-ofZ}
 use Rattle.calendar.specs.Calendars.{Genuine}
 use Rattle.calendar.specs.Promise.{IsGenuine}
-use Rattle.ways.specs.Ways.{NextStep}
+use Rattle.ways.specs.Promise.{NextStep}
 use Rattle.walker.specs.Laws.{date-made-up, flag-made-up, step-ended, step-gives}
 use Rattle.walker.specs.declared.Walker.{Walker}
 use Rattle.walker.proofs.any_step.Statement.{statement}

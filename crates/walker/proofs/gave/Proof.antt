@@ -5,7 +5,7 @@ use borrow.Author.Needs.{needs}
 use mir.Facts.{toZ-ofZ}
 use Rattle.calendar.specs.Calendars.{IsRecord}
 use Rattle.walker.specs.Private.{gave}
-use Rattle.walker.specs.Laws.{record-genuine}
+use Rattle.calendar.specs.Theorems.{record-genuine}
 use Rattle.walker.proofs.gave.Statement.{statement}
 use Rattle.walker.proofs.gave.Tie as tie
 

@@ -8,7 +8,8 @@ use mir.Facts.{toZ-ofZ}
 use mir.Syntax.{w32}
 use mir.Val.{toZ}
 use Rattle.calendar.specs.Calendars.{IsRecord}
-use Rattle.walker.specs.Laws.{has-record, never-refused}
+use Rattle.walker.specs.Laws.{is-given}
+use Rattle.calendar.specs.Theorems.{never-refused}
 use Rattle.walker.proofs.on_day.Statement.{statement}
 use Rattle.walker.proofs.on_day.Tie as tie
 
@@ -30,7 +31,7 @@ enum-told c = search needs
 returns-2 : tie.Need-returns-2
 returns-2 c =
     let b = c .before .before .before in
-    has-record (rw (c .before .d .given .1, toZ-ofZ (b .before .before .before .before .fits .jdn)) at (b .at-jdn .ensures))
+    is-given (rw (c .before .d .given .1, toZ-ofZ (b .before .before .before .before .fits .jdn)) at (b .at-jdn .ensures))
 
 returns-3 : tie.Need-returns-3
 returns-3 c =

@@ -6,7 +6,7 @@ use borrow.Author.Needs.{needs, sfits-of}
 use mir.Facts.{toZ-ofZ}
 use Rattle.calendar.specs.InMonth.{NextInMonth}
 use Rattle.calendar.specs.declared.Near.the-variants as Near′
-use Rattle.ways.specs.Ways.{goesLater}
+use Rattle.ways.specs.Promise.{goesLater}
 use Rattle.walker.specs.declared.Walker.{Walker}
 use Rattle.walker.specs.Laws.{not-ended, gives-first, gives-next}
 use Rattle.walker.proofs.stepped.Statement.{statement}

@@ -5,9 +5,9 @@ use Prim.Native.Nat.{_-_, _≤_, _^_}
 use borrow.Author.Needs.{needs, sfits-of}
 use lib.IntN.{sucℤ, predℤ}
 use mir.Facts.{toZ-ofZ}
-use Rattle.whole.specs.Biased.{unbias}
+use Rattle.whole.specs.Promise.{unbias}
 use Rattle.days.specs.ClosedEnds.{suc-is, pred-is}
-use Rattle.ways.specs.Ways.{toward}
+use Rattle.ways.specs.Promise.{toward}
 use Rattle.ways.specs.Laws.{toward-later, toward-earlier, room-up, room-down}
 use Rattle.ways.proofs.ahead.Statement.{statement}
 use Rattle.ways.proofs.ahead.Tie as tie

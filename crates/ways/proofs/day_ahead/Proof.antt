@@ -3,7 +3,7 @@
 use Prim.Native.Nat.{_-_}
 use borrow.Author.Needs.{needs, sfits-of}
 use mir.Facts.{toZ-ofZ}
-use Rattle.ways.specs.Ways.{there, nowhere}
+use Rattle.ways.specs.Promise.{there, nowhere}
 use Rattle.ways.proofs.day_ahead.Statement.{statement}
 use Rattle.ways.proofs.day_ahead.Tie as tie
 

@@ -5,7 +5,7 @@ use mathlib.Core.Bool.{not}
 use Prim.Native.Nat.{_-_}
 use borrow.Author.Needs.{needs}
 use mir.Facts.{toZ-ofZ}
-use Rattle.ways.specs.Ways.{ended}
+use Rattle.ways.specs.Promise.{ended}
 use Rattle.ways.specs.Laws.{last-made-up, last-gives}
 use Rattle.ways.proofs.on_the_last.Statement.{statement}
 use Rattle.ways.proofs.on_the_last.Tie as tie

@@ -8,7 +8,7 @@ use lib.IntN.{ℤ}
 use mir.Facts.{toZ-ofZ}
 use mir.Syntax.{w32}
 use mir.Val.{toZ, ofZ}
-use Rattle.ways.specs.Ways.{toward, EndedAt, made-up}
+use Rattle.ways.specs.Promise.{toward, EndedAt, made-up}
 use Rattle.ways.specs.Laws.{way-gives, way-goes}
 use Rattle.ways.proofs.on_the_way.Statement.{statement}
 use Rattle.ways.proofs.on_the_way.Tie as tie

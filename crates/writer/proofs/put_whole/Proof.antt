@@ -3,7 +3,7 @@
 use mathlib.Core.Path.{ap, _∙_}
 use lib.IntN.{natAbs}
 use mir.Facts.{toZ-ofZ}
-use Rattle.whole.specs.Edge.{isNegative}
+use Rattle.whole.specs.Promise.{isNegative}
 use Rattle.writer.specs.Laws.{as-whole}
 use borrow.Author.Needs.{needs}
 use Rattle.writer.proofs.put_whole.Statement.{statement}

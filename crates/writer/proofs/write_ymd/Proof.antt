@@ -5,7 +5,7 @@ use mathlib.Core.Bool.{true}
 use native.Mathlib.Omega.{arith}
 use lib.IntN.{natAbs}
 use mir.Facts.{toZ-ofZ}
-use Rattle.whole.specs.Edge.{isNegative}
+use Rattle.whole.specs.Promise.{isNegative}
 use Rattle.writer.specs.Laws.{length-whole, ymd-left, ymd-wrote}
 use borrow.Author.Needs.{needs, sfits-of}
 use Rattle.writer.proofs.write_ymd.Statement.{statement}

@@ -6,7 +6,8 @@ use native.Mathlib.Omega.{arith}
 use borrow.Author.Needs.{needs, sfits-of}
 use lib.IntN.{ℤ, pos, _-ℤ_}
 use mir.Facts.{toZ-ofZ}
-use Rattle.whole.specs.Biased.{unbias, unbias-back}
+use Rattle.whole.specs.Biased.{unbias-back}
+use Rattle.whole.specs.Promise.{unbias}
 use Rattle.days.specs.ClosedRuns.{Runs}
 use Rattle.calendar.specs.Calendars.{definitionOf, Accepted}
 use Rattle.calendar.specs.Laws.{switch-runs, switch-made-up, reform-some}

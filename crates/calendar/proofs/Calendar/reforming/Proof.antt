@@ -5,7 +5,7 @@ use Prim.Native.Nat.{_-_}
 use lib.IntN.{ℤ}
 use borrow.Author.Needs.{needs}
 use mir.Facts.{toZ-ofZ}
-use Rattle.switches.specs.Judging.{Judges}
+use Rattle.switches.specs.Promise.{Judges}
 use Rattle.calendar.specs.Laws.{reforms-accepted, reforms-refused}
 use Rattle.calendar.specs.Promise.{Reforms}
 use Rattle.calendar.specs.declared.Calendar.the-variants as Calendar′

@@ -4,7 +4,7 @@ use denote.Triple.Spec.{tripleOf}
 use denote.Triple.Table.{entered, cited}
 use contract.Running.{givenOf, tables, tablesOf}
 use Rattle.numbertext.specs.Promise.{NumberAt}
-use Rattle.reader.specs.Moves.{afterNumber}
+use Rattle.reader.specs.Promise.{afterNumber}
 use Rattle.probe.proofs.text.Lending.{by-meets}
 use Rattle.numbertext.proofs.Number as S
 use Rattle.numbertext.proofs.Number.Laws as S′

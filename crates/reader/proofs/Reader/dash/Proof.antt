@@ -4,7 +4,7 @@ use denote.Triple.Spec.{tripleOf}
 use denote.Triple.Table.{entered, cited}
 use contract.Running.{givenOf, tables, tablesOf}
 use Rattle.numbertext.specs.Promise.{DashAt}
-use Rattle.reader.specs.Moves.{afterDash}
+use Rattle.reader.specs.Promise.{afterDash}
 use Rattle.reader.proofs.Moving.{next-meets}
 use Rattle.numbertext.proofs.Dash as S
 use Rattle.numbertext.proofs.Dash.Laws as S′

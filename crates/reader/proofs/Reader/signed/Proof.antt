@@ -4,7 +4,7 @@ use denote.Triple.Spec.{tripleOf}
 use denote.Triple.Table.{entered, cited}
 use contract.Running.{givenOf, tables, tablesOf}
 use Rattle.numbertext.specs.Promise.{SignedAt}
-use Rattle.reader.specs.Moves.{afterSigned}
+use Rattle.reader.specs.Promise.{afterSigned}
 use Rattle.reader.proofs.Moving.{next-meets}
 use Rattle.numbertext.proofs.SignedNumber as S
 use Rattle.numbertext.proofs.SignedNumber.Laws as S′

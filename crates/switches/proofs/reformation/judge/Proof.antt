@@ -4,7 +4,7 @@ use mathlib.Core.Path.{_≡_, _∙_}
 use Prim.Native.Nat.{_-_, _^_}
 use borrow.Author.Needs.{needs}
 use mir.Facts.{toZ-ofZ}
-use Rattle.whole.specs.Biased.{unbias}
+use Rattle.whole.specs.Promise.{unbias}
 use Rattle.switches.specs.JudgingLaws.{least, before-julian-days, before-the-first, between, past-the-last}
 use Rattle.switches.proofs.reformation.judge.Statement.{statement}
 use Rattle.switches.proofs.reformation.judge.Tie as tie

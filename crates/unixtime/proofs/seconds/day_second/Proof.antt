@@ -5,7 +5,7 @@ use Prim.Native.Nat.{_-_, _^_}
 use native.Mathlib.Omega.{arith}
 use borrow.Author.Needs.{needs, sfits-of}
 use mir.Facts.{toZ-ofZ}
-use Rattle.whole.specs.Biased.{unbias}
+use Rattle.whole.specs.Promise.{unbias}
 use Rattle.unixtime.specs.Promise.{outside-32}
 use Rattle.unixtime.specs.Laws.{time-below, time-above, biased-time, day-second-at}
 use Rattle.unixtime.proofs.seconds.day_second.Statement.{statement}

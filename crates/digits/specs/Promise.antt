@@ -1,4 +1,5 @@
--- What digits stand at a place of a list of bytes, by computing, in the order of the code. `Runs` and `Few` show that this is what `Numerals` says.
+-- What is promised: the digits that stand at a place of a list of bytes, by computing, in the order of the code. `Runs` and `Few` show that this is what
+-- `Numerals` says.
 -- Assumes nothing.
 use Prim.Native.Nat.{ℕ, _+_, _-_, _*_}
 use mathlib.Core.List.{List, [], _∷_}

@@ -1,8 +1,9 @@
--- The ways of walkers on whole numbers: which day lies ahead, which is given next, which is held then, and when a walker is ended.
+-- What is promised of the ways of walkers, on whole numbers: which day lies ahead, which is given next, which is held then, and when a walker is ended.
 -- Assumes nothing.
 use mathlib.Core.Bool.{Bool, true, false}
 use Prim.Native.Nat.{ℕ, _≤_}
 use lib.IntN.{ℤ, sucℤ, predℤ}
+use Rattle.whole.specs.Whether.{Whether}
 use Rattle.days.specs.DayByDay.{Is32Bit}
 use Rattle.ways.specs.declared.Neighbour.{Neighbour}
 use Rattle.ways.specs.declared.Neighbour.the-variants as Neighbour′
@@ -37,8 +38,7 @@ Inside false d = 2 ≤ d
 
 -- whether it has, and the day next to day n is one of 32 bits
 abbrev pub IsStaying : Bool → ℕ → ℤ → Bool → Type 0
-IsStaying l d n true = Inside l d × Is32Bit (beside l n)
-IsStaying l d n false = ¬ (Inside l d × Is32Bit (beside l n))
+IsStaying l d n = Whether (Inside l d × Is32Bit (beside l n))
 
 -- day n, where 32 bits hold it
 pub data IsNeighbour (n : ℤ) : Neighbour → Type 0 where

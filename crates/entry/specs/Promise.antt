@@ -1,0 +1,24 @@
+-- What `line_answer` promises: the answer to a line, by its name and its text.
+-- Assumes nothing.
+use Prim.Native.Nat.{ℕ, _<_}
+use mathlib.Core.List.{List}
+use lib.ListN.{length}
+use lib.IntN.{pos}
+use Rattle.calendar.specs.declared.Calendar.{Calendar}
+use Rattle.refusals.specs.declared.Refusal.{Refusal}
+use Rattle.calendar.specs.declared.Dated.{Dated}
+use Rattle.calendar.specs.declared.Dated.the-variants as Dated′
+use Rattle.calendar.specs.declared.Chosen.the-variants as Chosen′
+use Rattle.calendar.specs.Rows.{If}
+use Rattle.calendar.specs.Promise.{refusal}
+use Rattle.ncal.specs.Promise.{NamesCalendar}
+use Rattle.dateparse.specs.Promise.{ParseDate}
+use Rattle.entry.specs.Entry.{longestEntry, Entry}
+
+pub data ByEntry (l : List ℕ) : Dated → Type 0 where
+  no-name : {name text : List ℕ} {why : Refusal} → Entry l name text → NamesCalendar name (Chosen′.Refused why) → ByEntry l (Dated′.Refused why)
+  by-text : {name text : List ℕ} {c : Calendar} {a : Dated} → Entry l name text → NamesCalendar name (Chosen′.Calendar c) → ParseDate c text a → ByEntry l a
+
+-- 20; then 19; then what the text comes to
+abbrev pub LineAnswer : List ℕ → Dated → Type 0
+LineAnswer l = If (longestEntry < length l) (Dated′.Refused (refusal 20 (pos 0))) (ByEntry l)
