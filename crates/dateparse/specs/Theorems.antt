@@ -1,4 +1,4 @@
--- That each promise allows one result, and demand 3: `EveryText` says it, and it holds of every accepted calendar (`every-text`).
+-- Demand 3: `EveryText` says it, and it holds of any timeline that rises (`every-text`) and of every accepted calendar (`every-calendar`).
 -- Assumes nothing.
 use mathlib.Core.Path.{_≡_, refl, sym, _∙_, ap, subst}
 use mathlib.Core.List.{List}
@@ -8,9 +8,8 @@ use native.Mathlib.Omega.{arith}
 use lib.IntN.{ℤ, pos, negsuc}
 use lib.Signed.{_≤ℤ_}
 use lib.ListN.{length, take}
-use Rattle.days.specs.DayByDay.{Label, label, Timeline, labelsIn, Rises, OfYear, Place, Is32Bit, Rising, Month}
+use Rattle.days.specs.DayByDay.{Label, label, Timeline, labelsIn, OfYear, Place, Is32Bit, Rising, Month}
 use Rattle.days.specs.RisingLabels.{once, nth-one}
-use Rattle.days.specs.AcceptedCalendars.{accepted-rises}
 use Rattle.days.specs.RisingTimelines.{rising-rises, timeline-proper, timeline-most}
 use Rattle.days.specs.AcceptedYears.{year-from, year-to, year-short, accepted-rising}
 use Rattle.calendar.specs.declared.Calendar.{Calendar}
@@ -19,46 +18,20 @@ use Rattle.calendar.specs.declared.Dated.{Dated}
 use Rattle.calendar.specs.declared.Dated.the-variants as Dated′
 use Rattle.calendar.specs.Calendars.{timeline, Accepted, IsRecordIn, IsRecord, Genuine}
 use Rattle.calendar.specs.Rows.{passes}
-use Rattle.calendar.specs.RowLaws.{One, passed, unless-one}
+use Rattle.calendar.specs.RowLaws.{passed}
 use Rattle.calendar.specs.Promise.{YmdIn, OrdinalIn}
-use Rattle.calendar.specs.One.{record-one, ymd-in-one, ordinal-in-one}
+use Rattle.calendar.specs.One.{record-one}
 use Rattle.calendar.specs.Theorems.{IsRecordOfIn, ymd-in-accepts, ymd-in-only, ordinal-in-accepts, ordinal-in-only, has-record}
 use Rattle.calendar.specs.Answered.{ymd-answered, ordinal-answered}
 use Rattle.writer.specs.Promise.{YmdDecimal}
-use Rattle.writer.specs.One.{write-ymd-one}
 use Rattle.writer.specs.Theorems as W
 use Rattle.writer.specs.declared.Written.{Written}
 use Rattle.datetext.specs.Grammar.{OrdinalText, YmdText}
 use Rattle.datetext.specs.Theorems as T
 use Rattle.dateparse.specs.EveryText.{Says, says-ymd, says-ordinal, EveryText}
 use Rattle.dateparse.specs.ReadBack.{signed-fits, has-text, written-writes}
+use Rattle.dateparse.specs.One.{by-text-one}
 use Rattle.dateparse.specs.Promise.{placedAt, ByTextIn, ByText, by-fault, by-ordinal, by-ymd, ParseDate, WriteDate}
-
--- ---- Each promise allows one result
-by-text-one : {t : Timeline} → Rises (labelsIn t) → (c : Calendar) (s : List ℕ) → One (ByTextIn t c s)
-by-text-one {t} up c s a b (by-fault p) (by-fault q) = ap Dated′.Refused (T.one-fault p q)
-by-text-one {t} up c s a b (by-fault p) (by-ordinal q g) = absurd (T.never-both (T.Belongs.by-ordinal q) p)
-by-text-one {t} up c s a b (by-fault p) (by-ymd q g) = absurd (T.never-both (T.Belongs.by-day q) p)
-by-text-one {t} up c s a b (by-ordinal p f) (by-fault q) = absurd (T.never-both (T.Belongs.by-ordinal p) q)
-by-text-one {t} up c s a b (by-ordinal {y} {o} {k} {a = x} p f) (by-ordinal {y = z} {o = i} {k = j} {a = w} q g) =
-    let (e, h, l) = T.one-ordinal p q in
-    ap (placedAt k) (ordinal-in-one t c y o x w f (subst (λ (z : ℤ). OrdinalIn t c z o w) (sym e) (subst (λ (i : ℕ). OrdinalIn t c z i w) (sym h) g))) ∙ ap (λ (n : ℕ). placedAt n w) l
-by-text-one {t} up c s a b (by-ordinal p f) (by-ymd q g) = absurd (T.one-way p q)
-by-text-one {t} up c s a b (by-ymd p f) (by-fault q) = absurd (T.never-both (T.Belongs.by-day p) q)
-by-text-one {t} up c s a b (by-ymd p f) (by-ordinal q g) = absurd (T.one-way q p)
-by-text-one {t} up c s a b (by-ymd {y} {m} {d} {k} {a = x} p f) (by-ymd {y = z} {m = n} {d = i} {k = j} {a = w} q g) =
-    let (e, h, l, g′) = T.one-ymd p q in
-    ap (placedAt k) (ymd-in-one t c up y m d x w f (subst (λ (z : ℤ). YmdIn t c z m d w) (sym e) (subst (λ (n : ℕ). YmdIn t c z n d w) (sym h) (subst (λ (i : ℕ). YmdIn t c z n i w) (sym l) g))))
-    ∙ ap (λ (n : ℕ). placedAt n w) g′
-
-pub parse-date-one : (c : Calendar) (s : List ℕ) → One (ParseDate c s)
-parse-date-one c s = unless-one (λ a. by-text-one {t = timeline c} (accepted-rises a) c s)
-
-pub write-date-one : (d : Date) (b : List ℕ) → One (WriteDate d b)
-write-date-one d b = unless-one (λ g p q x y. let (e, f) = write-ymd-one x y in pair-is p q e f)
-  where
-    pair-is : (p q : List ℕ × Written) → p .0 ≡ q .0 → p .1 ≡ q .1 → p ≡ q
-    pair-is p q e f = ap (λ (l : List ℕ). (l, p .1)) e ∙ ap (λ (w : Written). (q .0, w)) f
 
 -- ---- A text is accepted exactly where a day bears its date
 same-label : {s : List ℕ} {y z : ℤ} {m n d e k j : ℕ} → YmdText s y m d k → YmdText s z n e j → label y m d ≡ label z n e

@@ -1,4 +1,4 @@
-// Digits in text: the run of them that stands at a place of the bytes, and one or two of them. Each call answers for any bytes and any place.
+// Digits in text: the run of digits at an offset of the bytes, and one or two of them. Each call answers for any bytes and any offset.
 // For the crates above.
 
 ghost use mathlib.Core.Path.{_≡_};

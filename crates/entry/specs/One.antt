@@ -8,9 +8,9 @@ use Rattle.calendar.specs.declared.Calendar.{Calendar}
 use Rattle.calendar.specs.declared.Chosen.{Chosen}
 use Rattle.calendar.specs.RowLaws.{One, if-one}
 use Rattle.ncal.specs.Promise.{NamesCalendar}
-use Rattle.ncal.specs.Theorems.{named-one}
+use Rattle.ncal.specs.One.{named-one}
 use Rattle.dateparse.specs.Promise.{ParseDate}
-use Rattle.dateparse.specs.Theorems.{parse-date-one}
+use Rattle.dateparse.specs.One.{parse-date-one}
 use Rattle.entry.specs.Entry.{Entry, tabbed, bare}
 use Rattle.entry.specs.Promise.{ByEntry, no-name, by-text, LineAnswer}
 

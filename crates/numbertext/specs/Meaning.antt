@@ -1,5 +1,5 @@
 -- What `Reading` computes is what `Numerals` and `Promise` say, both ways: the computed answer is right (`sound`), and a right answer is the
--- computed one (`complete`). So two answers that a promise allows are one (`one`).
+-- computed one (`complete`).
 -- Assumes nothing.
 use Prim.Native.Nat.{ℕ, _+_, _≤_, _<_}
 use mathlib.Core.Path.{_≡_, refl, sym, _∙_, ap, subst}
@@ -205,17 +205,11 @@ module _ {s : List ℕ} {at : ℕ} where
   pub number-is : {r : Number} → NumberAt s at r → r ≡ theNumber s at
   number-is h = sym (at-complete Number.Refused NumberFrom readNumber (λ at u r w. number-complete w) h)
 
-  pub number-one : {r q : Number} → NumberAt s at r → NumberAt s at q → r ≡ q
-  number-one h k = number-is h ∙ sym (number-is k)
-
   pub signed-meant : {r : SignedNumber} → r ≡ theSigned s at → SignedAt s at r
   signed-meant = at-sound SignedNumber.Refused SignedFrom readSigned signed-sound s at
 
   pub signed-is : {r : SignedNumber} → SignedAt s at r → r ≡ theSigned s at
   signed-is h = sym (at-complete SignedNumber.Refused SignedFrom readSigned (λ at u r w. signed-complete w) h)
-
-  pub signed-one : {r q : SignedNumber} → SignedAt s at r → SignedAt s at q → r ≡ q
-  signed-one h k = signed-is h ∙ sym (signed-is k)
 
   pub dash-meant : {r : Dash} → r ≡ theDash s at → DashAt s at r
   dash-meant = at-sound Dash.Refused DashFrom readDash dash-sound s at
@@ -223,14 +217,8 @@ module _ {s : List ℕ} {at : ℕ} where
   pub dash-is : {r : Dash} → DashAt s at r → r ≡ theDash s at
   dash-is h = sym (at-complete Dash.Refused DashFrom readDash (λ at u r w. dash-complete w) h)
 
-  pub dash-one : {r q : Dash} → DashAt s at r → DashAt s at q → r ≡ q
-  dash-one h k = dash-is h ∙ sym (dash-is k)
-
   pub end-meant : {r : End} → r ≡ theEnd s at → EndAt s at r
   end-meant = at-sound End.Refused EndFrom readEnd end-sound s at
 
   pub end-is : {r : End} → EndAt s at r → r ≡ theEnd s at
   end-is h = sym (at-complete End.Refused EndFrom readEnd (λ at u r w. end-complete w) h)
-
-  pub end-one : {r q : End} → EndAt s at r → EndAt s at q → r ≡ q
-  end-one h k = end-is h ∙ sym (end-is k)

@@ -5,7 +5,7 @@ use mathlib.Core.Path.{_≡_, sym, _∙_, ap, ap₂}
 use mathlib.Core.List.{List}
 use denote.Ref.{RefT}
 use Rattle.numbertext.specs.Promise.{NumberAt, SignedAt, DashAt}
-use Rattle.numbertext.specs.Meaning.{number-one, signed-one, dash-one}
+use Rattle.numbertext.specs.One.{number-one, signed-one, dash-one}
 use Rattle.numbertext.specs.declared.Number.{Number}
 use Rattle.numbertext.specs.declared.SignedNumber.{SignedNumber}
 use Rattle.numbertext.specs.declared.Dash.{Dash}

@@ -1,4 +1,4 @@
-// A reader that holds the caller's bytes and how far it has read: thin functions over the reads at a place of `numbertext`.
+// A reader that holds the caller's bytes and how far it has read: thin functions over the reads at an offset of `numbertext`.
 // For users.
 
 ghost use mathlib.Core.Path.{_≡_};
