@@ -44,7 +44,7 @@ use Rattle.calendar.specs.declared.Chosen.the-variants as Chosen′
 use Rattle.calendar.specs.declared.Dated.{Dated}
 use Rattle.calendar.specs.declared.Dated.the-variants as Dated′
 use Rattle.calendar.specs.declared.Switch.the-variants as Switch′
-use Rattle.calendar.specs.declared.record.Place as P
+use Rattle.calendar.specs.declared.record.DayInYear as P
 use Rattle.calendar.specs.declared.record.Placed.the-variants as Placed′
 use Rattle.calendar.specs.declared.record.Read.the-variants as Read′
 use Rattle.inner.specs.declared.Spot as S
@@ -448,7 +448,7 @@ day-of : (m d : ℕ) → d < 32 → (m * 32 + d) % 32 ≡ d
 day-of m d h = omega arith
 
 -- ---- Where a day stands
-module _ (c : Calendar) {r y : ℕ} (runs : Runs (definitionOf c) r) {p : P.Place} {z : ℤ} (e : year (biasedYear y) ≡ z) (s : IsPlace r y p) where
+module _ (c : Calendar) {r y : ℕ} (runs : Runs (definitionOf c) r) {p : P.DayInYear} {z : ℤ} (e : year (biasedYear y) ≡ z) (s : IsPlace r y p) where
   pub place-some : 1 ≤ p .past
   place-some = omega (arith, s .past-is)
 
@@ -477,7 +477,7 @@ module _ (c : Calendar) {r y : ℕ} (runs : Runs (definitionOf c) r) {p : P.Plac
       place : Place (λ d. OfYear z (labels c d)) (day (p .past - 1)) (p .ordinal)
       place = subst (λ (k : ℕ). Place (λ d. OfYear z (labels c d)) (day k) (p .ordinal)) biased-past there
 
-pub given-place : (c : Calendar) (p : P.Place) {z n : ℤ} → Lowers (p .past - 1) (DayNumber′.Day n) → IsRecord c (day (p .past - 1)) (recordAt c z p)
+pub given-place : (c : Calendar) (p : P.DayInYear) {z n : ℤ} → Lowers (p .past - 1) (DayNumber′.Day n) → IsRecord c (day (p .past - 1)) (recordAt c z p)
     → Given c z (day (p .past - 1)) (Dated′.Date (record { calendar = c; year = z; ordinal = p .ordinal; month = p .month; day = p .day; «day_ordinal» = p .«day_ordinal»; jdn = n }))
 given-place c p {z} w i =
     given-biased c w (subst (λ (n : ℤ). IsRecord c n (record { calendar = c; year = z; ordinal = p .ordinal; month = p .month; day = p .day; «day_ordinal» = p .«day_ordinal»; jdn = n })) (lowered-day w) i)
@@ -486,7 +486,7 @@ given-place c p {z} w i =
 pub plain-stands : {r : ℕ} → SomeSwitch r → (s : S.Spot) → OnSpot r s → Plain r s → IsPlace r (s .year) (plainPlace s)
 plain-stands (c, runs) s l p = record { biased = s .biased; own = s .ordinal; past-is = refl; labelled = l; ordinal-is = plain-ordinal c runs l p; day-ordinal-is = plain-day-ordinal c runs l p }
 
-pub place-room : {r y : ℕ} {p : P.Place} → IsPlace r y p → p .past < top
+pub place-room : {r y : ℕ} {p : P.DayInYear} → IsPlace r y p → p .past < top
 place-room q = omega (arith, q .past-is, labelled-room (q .labelled))
 
 pub plain-room : {r y : ℕ} (s : S.Spot) → IsPlace r y (plainPlace s) → s .biased < top
@@ -644,7 +644,7 @@ module _ {r : ℕ} (y : ℕ) {o : ℕ} (h : BiasedYear (biasedYear y)) where
       day-ordinal-is = z;
     })
 
-pub ordinal-placed : {r y o : ℕ} {p : P.Place} → PlacesOrdinal r y o (Placed′.At p) → IsPlace r y p × (p .ordinal ≡ o)
+pub ordinal-placed : {r y o : ℕ} {p : P.DayInYear} → PlacesOrdinal r y o (Placed′.At p) → IsPlace r y p × (p .ordinal ≡ o)
 ordinal-placed (ordinal-at-place i e) = (i, e)
 
 pub off-row : (c : Calendar) {r : ℕ} (runs : Runs (definitionOf c) r) (y : ℕ) {o : ℕ} {z : ℤ} {f : Refusal} → BiasedYear (biasedYear y) → year (biasedYear y) ≡ z → PlacesOrdinal r y o (Placed′.Refused f) → AtOrdinal c z o (Dated′.Refused f)

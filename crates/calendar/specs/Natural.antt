@@ -16,7 +16,7 @@ use Rattle.monthdays.specs.Promise.{MonthDayAt}
 use Rattle.fields.specs.declared.Fields.{Fields}
 use Rattle.calendar.specs.declared.Calendar.{Calendar}
 use Rattle.calendar.specs.declared.Date.{Date}
-use Rattle.calendar.specs.declared.record.Place.{Place}
+use Rattle.calendar.specs.declared.record.DayInYear.{DayInYear}
 use Rattle.calendar.specs.declared.record.Placed.{Placed}
 use Rattle.calendar.specs.declared.record.Placed.the-variants as Placed′
 use Rattle.calendar.specs.declared.record.Read.{Read}
@@ -68,7 +68,7 @@ pub record SpotAt (k y o : ℕ) (leap : Bool) (s : Spot) : Type 0 where
 -- ---- Where a day stands
 
 -- a day of the raised year y: its label, and its places in its year and its month
-pub record IsPlace (r y : ℕ) (p : Place) : Type 0 where
+pub record IsPlace (r y : ℕ) (p : DayInYear) : Type 0 where
   pub biased : ℕ
   pub own : ℕ
   pub past-is : p .past ≡ biased + 1
@@ -77,11 +77,11 @@ pub record IsPlace (r y : ℕ) (p : Place) : Type 0 where
   pub day-ordinal-is : biased + 1 - monthFirst r (biasedYear y) (p .month) ≡ p .«day_ordinal»
 
 -- that of a spot whose places are those of its own reckoning
-abbrev pub plainPlace : Spot → Place
+abbrev pub plainPlace : Spot → DayInYear
 plainPlace s = record { past = s .biased + 1; ordinal = s .ordinal; month = s .month; day = s .day; «day_ordinal» = s .day }
 
 -- its record
-abbrev pub recordAt : Calendar → ℤ → Place → Date
+abbrev pub recordAt : Calendar → ℤ → DayInYear → Date
 recordAt c z p = record { calendar = c; year = z; ordinal = p .ordinal; month = p .month; day = p .day; «day_ordinal» = p .«day_ordinal»; jdn = day (p .past - 1) }
 
 -- ---- From a label
@@ -91,7 +91,7 @@ pub data ReadsLabel (leap : Bool) (start y m d : ℕ) : Read → Type 0 where
   reads-at : {o : ℕ} → ThereIn leap m d → daysBefore leap m + d ≡ o → ReadsLabel leap start y m d (Read′.At (spot (start + o - 1) y o m d))
   reads-none : ¬ ThereIn leap m d → ReadsLabel leap start y m d Read′.Nothing
 
-abbrev pub LabelAt : ℕ → ℕ → ℕ → ℕ → Place → Type 0
+abbrev pub LabelAt : ℕ → ℕ → ℕ → ℕ → DayInYear → Type 0
 LabelAt r y m d p = IsPlace r y p × (p .month ≡ m) × (p .day ≡ d)
 
 abbrev pub PlacesLabel : ℕ → ℕ → ℕ → ℕ → Placed → Type 0
@@ -114,7 +114,7 @@ abbrev pub OffSpan : ℕ → ℕ → ℕ → Type 0
 OffSpan r y o = (o ≡ 0) ⊎ (yearFirst r (biasedYear y + 1) - yearFirst r (biasedYear y) < o)
 
 pub data PlacesOrdinal (r y o : ℕ) : Placed → Type 0 where
-  ordinal-at-place : {p : Place} → IsPlace r y p → p .ordinal ≡ o → PlacesOrdinal r y o (Placed′.At p)
+  ordinal-at-place : {p : DayInYear} → IsPlace r y p → p .ordinal ≡ o → PlacesOrdinal r y o (Placed′.At p)
   ordinal-off : OffSpan r y o → PlacesOrdinal r y o (Placed′.Refused (refusal 6 (pos o)))
 
 -- the o-th day of the year is a Gregorian day from the switch on

@@ -132,7 +132,7 @@ fn julian_month(year: u32, month: u32) -> u64
 // that are refused there, are found out of line, by `turning`.
 
 // The biased day past it, its label, and its places in its year and its month.
-struct Place {
+struct DayInYear {
     past: u64,
     ordinal: u32,
     month: u32,
@@ -141,12 +141,12 @@ struct Place {
 }
 
 enum Placed {
-    At(Place),
+    At(DayInYear),
     Refused(Refusal),
 }
 
 // The record of a day, or that 32 bits do not hold its number.
-fn given(calendar: Calendar, year: i32, p: Place) -> Dated
+fn given(calendar: Calendar, year: i32, p: DayInYear) -> Dated
     requires { ⌜ (1 ≤ p .past) × IsRecord calendar (day (p .past - 1)) (recordAt calendar year p) ⌝ }
     ensures { λ d. ⌜ Given calendar year (day (p .past - 1)) d ⌝ }
 {
@@ -166,11 +166,11 @@ fn given(calendar: Calendar, year: i32, p: Place) -> Dated
 }
 
 // The places of a day in its own reckoning.
-fn plain_place(s: Spot) -> Place
+fn plain_place(s: Spot) -> DayInYear
     requires { ⌜ s .biased < top ⌝ }
     ensures { λ p. ⌜ p ≡ plainPlace s ⌝ }
 {
-    Place {
+    DayInYear {
         past: s.biased + 1,
         ordinal: s.ordinal,
         month: s.month,
@@ -232,7 +232,7 @@ fn label_place(switch: u64, year: u32, month: u32, day: u32) -> Placed
 
 // What is answered in line, or that the label is looked for from the switch on, in its year.
 enum Early {
-    At(Place),
+    At(DayInYear),
     Refused(Refusal),
     Later,
 }
@@ -279,7 +279,7 @@ fn later_label(switch: u64, year: u32, month: u32, day: u32) -> Placed
         return Placed::Refused(refusals::refusal_with(t as u32, day));
     }
     let first = earlier(inner::julian_start(year), switch);
-    Placed::At(Place {
+    Placed::At(DayInYear {
         past: first + t / PAIR,
         ordinal: (t / PAIR) as u32,
         month: month,
@@ -335,7 +335,7 @@ fn ordinal_place(switch: u64, year: u32, ordinal: u32) -> Placed
         return Placed::At(plain_place(s));
     }
     let t = turning(switch, year, 0, ordinal);
-    Placed::At(Place {
+    Placed::At(DayInYear {
         past: past,
         ordinal: ordinal,
         month: (t / PAIR / 32) as u32,
