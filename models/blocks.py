@@ -7,7 +7,7 @@ does not fit the output; the last line has no newline.
 import sys
 
 BLOCK = 65536
-NAMES = [b'JULIAN', b'GREGORIAN', b'ITALY', b'DENMARK', b'UNITED_KINGDOM', b'RUSSIA', b'ATLANTIS']
+NAMES = [b'JULIAN', b'GREGORIAN', b'ITALY', b'AUGSBURG', b'UNITED_KINGDOM', b'LIEGE', b'ATLANTIS']  # AUGSBURG and LIEGE are house calendars
 
 data = bytearray()
 

@@ -143,6 +143,18 @@ def refused(number, place=0, value=0):
     return ('!', number, place, value)
 
 
+def reformation_fault(r):
+    """Why no calendar is reforming at r, or None."""
+    label_of_r = G.label(r)
+    if r - 1 < LOW:
+        return refused(1, 0, r)
+    if not LOW <= J.day(label_of_r) <= HIGH:
+        return refused(2, 0, r)
+    if label_of_r <= J.label(r):
+        return refused(1, 0, r)
+    return None
+
+
 def given(c, n, y):
     if not LOW <= n <= HIGH:
         return refused(7, 0, y)

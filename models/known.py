@@ -23,17 +23,6 @@ def calendar(field):
     return r, reformation_fault(r)
 
 
-def reformation_fault(r):
-    label_of_r = G.label(r)
-    if r - 1 < LOW:
-        return refused(1, 0, r)
-    if not LOW <= J.day(label_of_r) <= HIGH:
-        return refused(2, 0, r)
-    if label_of_r <= J.label(r):
-        return refused(1, 0, r)
-    return None
-
-
 def date(c, fields):
     """An answer with the record of a day number, or with the fields that stand after `=`; and the fields after the date."""
     if fields[0] == b'=':
