@@ -251,3 +251,10 @@ table-holds r f o =
     let (k, e, h) = biased-fits f in
     subst (λ (z : ℤ). (TableRow z o → Judged z o) × (Judged z o → TableRow z o)) (sym e)
     (row-judged k h, λ j. let (p, w) = some-row k h in subst (TableRow (day k)) (judged-one (row-judged k h w) j) w)
+
+-- and there is an outcome
+pub judged-some : (r : ℤ) → Is32Bit r → (o : Outcome) × Judged r o
+judged-some r f =
+    let (k, e, h) = biased-fits f in
+    let (o, w) = some-row k h in
+    (o, subst (λ (z : ℤ). Judged z o) (sym e) (row-judged k h w))

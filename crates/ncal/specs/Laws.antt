@@ -13,12 +13,13 @@ use mir.Facts.{and-yes}
 use Rattle.whole.specs.Tests.{true-or-false}
 use Rattle.calendar.specs.Rows.{refuses, passes}
 use Rattle.calendar.specs.declared.Calendar.{Calendar}
+use Rattle.calendar.specs.declared.Chosen.{Chosen}
 use Rattle.calendar.specs.declared.Chosen.the-variants as Chosen′
 use Rattle.ncal.specs.declared.Found.{Found}
 use Rattle.ncal.specs.declared.Found.the-variants as Found′
 use Rattle.ncal.specs.Every.{eqList, eq-list, list-eq}
 use Rattle.ncal.specs.Table.{NameRow, row, table}
-use Rattle.ncal.specs.Promise.{NamesCalendar, unknownName, of-row}
+use Rattle.ncal.specs.Promise.{FoundAs, in-table, in-no-row, NamesCalendar, unknownName, of-row}
 use Rattle.ncal.specs.Search.{orRow, orRows, among, ofLength}
 
 pub nought : _≡_ {A = ℕ} 0 1 → ⊥
@@ -28,7 +29,7 @@ nought z = omega arith
 equal : (s t : List ℕ) → s ≡ t → eqList s t ≡ true
 equal s t e = subst (λ (u : List ℕ). eqList s u ≡ true) e (list-eq s)
 
-same-or-other : (s t : List ℕ) → (s ≡ t) ⊎ ¬ (s ≡ t)
+pub same-or-other : (s t : List ℕ) → (s ≡ t) ⊎ ¬ (s ≡ t)
 same-or-other s t = ⊎-elim (λ e. inl (eq-list s t (subst T (sym e) tt))) (λ e. inr (λ q. subst T e (subst T (sym (equal s t q)) tt))) (true-or-false (eqList s t))
 
 pub own-row : (s : List ℕ) (r : NameRow) → s ≡ r .name → orRow s Found′.Nothing r ≡ Found′.Calendar (r .calendar)
@@ -114,8 +115,22 @@ module _ (s : List ℕ) where
       (λ n. ⊎-elim (λ w. n (ap (λ (t : NameRow). t .name) w)) (λ w. not-in rows (sym (found-later r rows n) ∙ e) w) (List·Memᴰ·cases-cons m))
       (same-or-other s (r .name))
 
-pub is-named : (s : List ℕ) {c : Calendar} → Found′.Calendar c ≡ among s table → NamesCalendar s (Chosen′.Calendar c)
-is-named s {c} e = let m = found-in s c table (sym e) in passes (c, m) (of-row m)
+-- the answer to what is found
+abbrev chosenOf : Found → Chosen
+chosenOf (Found′.Calendar c) = Chosen′.Calendar c
+chosenOf Found′.Nothing = unknownName
 
-pub not-named : (s : List ℕ) → Found′.Nothing ≡ among s table → NamesCalendar s unknownName
-not-named s e = refuses (λ k. not-in s table (sym e) (k .1))
+pub is-found : (s : List ℕ) (f : Found) → f ≡ among s table → FoundAs s f
+is-found s (Found′.Calendar c) e = in-table (found-in s c table (sym e))
+is-found s Found′.Nothing e = in-no-row (λ k. not-in s table (sym e) (k .1))
+
+-- and what is found is named
+found-named : {s : List ℕ} {f : Found} → FoundAs s f → NamesCalendar s (chosenOf f)
+found-named (in-table {c} m) = passes (c, m) (of-row m)
+found-named (in-no-row n) = refuses n
+
+pub is-named : {s : List ℕ} {c : Calendar} → FoundAs s (Found′.Calendar c) → NamesCalendar s (Chosen′.Calendar c)
+is-named = found-named
+
+pub not-named : {s : List ℕ} → FoundAs s Found′.Nothing → NamesCalendar s unknownName
+not-named = found-named

@@ -1,6 +1,6 @@
 -- The names are distinct, and the promise allows one result.
 -- Assumes nothing.
-use mathlib.Core.Path.{_≡_, sym, _∙_, ap}
+use mathlib.Core.Path.{_≡_, refl, sym, _∙_, ap}
 use mathlib.Core.Bool.{Bool}
 use mathlib.Core.List.{List, []}
 use Prim.Native.Nat.{ℕ, _<_}
@@ -12,7 +12,9 @@ use Rattle.calendar.specs.declared.Calendar.{Calendar}
 use Rattle.calendar.specs.declared.Calendar.the-variants.{Julian}
 use Rattle.calendar.specs.declared.Chosen.the-variants as Chosen′
 use Rattle.ncal.specs.Table.{NameRow, row, table}
-use Rattle.ncal.specs.Promise.{InTable, OfRow, of-row, NamesCalendar}
+use Rattle.ncal.specs.Promise.{InTable, FoundAs, in-table, in-no-row, OfRow, of-row, NamesCalendar}
+use Rattle.ncal.specs.declared.Found.{Found}
+use Rattle.ncal.specs.declared.Found.the-variants as Found′
 use Rattle.ncal.specs.Every.{every, every-at, number-of, distinct}
 
 -- ---- Rows by number
@@ -44,3 +46,12 @@ of-row-one s a b (of-row p) (of-row q) = ap Chosen′.Calendar (one-row p q)
 
 pub named-one : (s : List ℕ) → One (NamesCalendar s)
 named-one s = unless-one (λ k. of-row-one s)
+
+look-up-same : {s : List ℕ} {f g : Found} → FoundAs s f → FoundAs s g → f ≡ g
+look-up-same (in-table m) (in-table n) = ap Found′.Calendar (one-row m n)
+look-up-same (in-table m) (in-no-row n) = absurd (n (_, m))
+look-up-same (in-no-row n) (in-table m) = absurd (n (_, m))
+look-up-same (in-no-row n) (in-no-row m) = refl
+
+pub look-up-one : (s : List ℕ) → One (FoundAs s)
+look-up-one s f g = look-up-same

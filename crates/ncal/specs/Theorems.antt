@@ -1,8 +1,9 @@
 -- A name of the table gets its calendar, and every calendar of the table is accepted.
 -- Assumes nothing.
-use mathlib.Core.Path.{_≡_, sym, ap, subst}
+use mathlib.Core.Path.{_≡_, refl, sym, ap, subst}
 use mathlib.Core.Bool.{Bool, true, _&&_}
 use mathlib.Core.List.{List}
+use mathlib.Core.Logic.{_⊎_, inl, inr}
 use Prim.Native.Nat.{ℕ}
 use lib.Dec.{T}
 use lib.IntN.{ℤ, pos}
@@ -20,9 +21,19 @@ use Rattle.calendar.specs.declared.Calendar.the-variants.{Julian, Gregorian, Re
 use Rattle.calendar.specs.declared.Chosen.{Chosen}
 use Rattle.calendar.specs.declared.Chosen.the-variants as Chosen′
 use Rattle.ncal.specs.Table.{NameRow, row, table}
-use Rattle.ncal.specs.Promise.{InTable, of-row, NamesCalendar}
+use Rattle.ncal.specs.Promise.{InTable, Known, FoundAs, in-table, in-no-row, of-row, NamesCalendar}
+use Rattle.ncal.specs.Search.{among}
+use Rattle.ncal.specs.declared.Found.{Found}
 use Rattle.ncal.specs.One.{rowAt, at-row, row-of, named-one}
-use Rattle.ncal.specs.Laws.{nought}
+use Rattle.ncal.specs.Laws.{nought, is-found}
+
+-- it is decided whether a name is known
+pub known-or-not : (s : List ℕ) → Known s ⊎ ¬ Known s
+known-or-not s = by (is-found s (among s table) refl)
+  where
+    by : {f : Found} → FoundAs s f → Known s ⊎ ¬ Known s
+    by (in-table m) = inl (_, m)
+    by (in-no-row n) = inr n
 
 -- a name of the table is answered with its calendar
 pub named-row : {s : List ℕ} {c : Calendar} {a : Chosen} → InTable s c → NamesCalendar s a → a ≡ Chosen′.Calendar c

@@ -1,9 +1,9 @@
 // The calendars of the countries that `ncal.rs` of the crate lists, and calendars by name.
-// For users.
+// For users: all that is public but `look_up` and `Found`, which are for the crates above.
 
 ghost use mathlib.Core.Path.{_≡_};
 ghost use Rattle.ncal.specs.Table.{row, table};
-ghost use Rattle.ncal.specs.Promise.{NamesCalendar};
+ghost use Rattle.ncal.specs.Promise.{FoundAs, NamesCalendar};
 ghost use Rattle.ncal.specs.Search.{orRow, among, ofLength};
 ghost use Rattle.whole.specs.Whether.{Whether};
 use calendar::Calendar;
@@ -120,16 +120,23 @@ pub const YUGOSLAVIA: Calendar = Calendar::Reforming(2_422_036);
 pub fn named(name: &[u8]) -> Chosen
     ensures { λ a. ⌜ NamesCalendar (now (name .entry)) a ⌝ }
 {
-    match by_length(name) {
+    match look_up(name) {
         Found::Calendar(c) => Chosen::Calendar(c),
         Found::Nothing => Chosen::Refused(refusal_of(19, 0)),
     }
 }
 
 // What a name is found to be among some names.
-enum Found {
+pub enum Found {
     Calendar(Calendar),
     Nothing,
+}
+
+// Among all of them. A name that is none here may still be one elsewhere, so this is no refusal.
+pub fn look_up(name: &[u8]) -> Found
+    ensures { λ f. ⌜ FoundAs (now (name .entry)) f ⌝ }
+{
+    by_length(name)
 }
 
 impl Found {
