@@ -1,4 +1,4 @@
--- The parts of a line.
+-- The parts of a line, and its answer where names come to the same in another way.
 -- Assumes nothing.
 use Prim.Native.Nat.{ℕ, _+_, _-_, _≤_, _<_}
 use mathlib.Core.Path.{_≡_, sym, _∙_, ap, subst}
@@ -9,13 +9,15 @@ use lib.ListN.{length, take, drop, length-append, length-drop}
 use lib.Seq.{take-all, take-at, drop-at, drop-length, take-length}
 use Rattle.whole.specs.Tests.{lt-or-ge}
 use Rattle.bytesearch.specs.Promise.{Without, UpTo}
-use Rattle.refusals.specs.declared.Refusal.{Refusal}
-use Rattle.calendar.specs.declared.Dated.the-variants as Dated′
-use Rattle.calendar.specs.declared.Chosen.the-variants as Chosen′
-use Rattle.ncal.specs.Promise.{NamesCalendar}
-use Rattle.entry.specs.Entry.{Entry, tabbed, bare}
 use Rattle.whole.specs.Text.{tab}
-use Rattle.entry.specs.Promise.{ByEntry, no-name}
+use Rattle.refusals.specs.declared.Refusal.{Refusal}
+use Rattle.calendar.specs.Rows.{refuses, passes}
+use Rattle.calendar.specs.declared.Dated.{Dated}
+use Rattle.calendar.specs.declared.Dated.the-variants as Dated′
+use Rattle.calendar.specs.declared.Chosen.{Chosen}
+use Rattle.calendar.specs.declared.Chosen.the-variants as Chosen′
+use Rattle.entry.specs.Entry.{Entry, tabbed, bare}
+use Rattle.entry.specs.Promise.{Naming, ByEntry, no-name, by-text, LineAnswer}
 
 entry-tabbed : {l : List ℕ} {k : ℕ} → UpTo tab l 0 k → k < length l → Entry l (take k l) (drop (k + 1) l)
 entry-tabbed {l} {k} (UpTo.stands {q} u e w p) h =
@@ -45,9 +47,19 @@ entry-from {l} {k} b (TextFrom.after-tab h e) = subst (λ (i : ℕ). Entry l (ta
 entry-from {l} {k} b (TextFrom.at-end h e) = subst (λ (i : ℕ). Entry l (take k l) (drop i l)) (sym e) (entry-bare b h)
 
 -- a name that is none, whatever the text
-pub no-calendar : {l : List ℕ} {k : ℕ} {why : Refusal} → UpTo tab l 0 k → NamesCalendar (take k l) (Chosen′.Refused why) → ByEntry l (Dated′.Refused why)
-no-calendar {l} {k} u n = ⊎-elim (λ h. no-name (entry-tabbed u h) n) (λ h. no-name (entry-bare u h) n) (lt-or-ge k (length l))
+pub no-calendar : {N : Naming} {l : List ℕ} {k : ℕ} {why : Refusal} → UpTo tab l 0 k → N (take k l) (Chosen′.Refused why) → ByEntry N l (Dated′.Refused why)
+no-calendar {l = l} {k} u n = ⊎-elim (λ h. no-name (entry-tabbed u h) n) (λ h. no-name (entry-bare u h) n) (lt-or-ge k (length l))
 
 -- a part of a slice that goes on to its end
 pub to-the-end : (k : ℕ) (s : List ℕ) → take (length s - k) (drop k s) ≡ drop k s
 to-the-end k s = take-all (length s - k) (drop k s) (omega (arith, length-drop k s))
+
+-- where whatever N says of a name M says too, an answer by N is one by M
+module _ {N M : Naming} (also : (s : List ℕ) (a : Chosen) → N s a → M s a) where
+  by-entry-also : {l : List ℕ} {a : Dated} → ByEntry N l a → ByEntry M l a
+  by-entry-also (no-name {name} {why = why} p q) = no-name p (also name (Chosen′.Refused why) q)
+  by-entry-also (by-text {name} {c = c} p q r) = by-text p (also name (Chosen′.Calendar c) q) r
+
+  pub answer-also : {l : List ℕ} {a : Dated} → LineAnswer N l a → LineAnswer M l a
+  answer-also (refuses h) = refuses h
+  answer-also (passes h b) = passes h (by-entry-also b)

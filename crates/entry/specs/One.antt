@@ -1,4 +1,4 @@
--- A line has one name and one text, and one answer.
+-- A line has one name and one text, and one answer where a name has one.
 -- Assumes nothing.
 use Prim.Native.Nat.{ℕ}
 use mathlib.Core.Path.{_≡_, refl, sym, subst}
@@ -7,12 +7,10 @@ use Rattle.bytesearch.specs.One.{never, parted-one, never-parted}
 use Rattle.calendar.specs.declared.Calendar.{Calendar}
 use Rattle.calendar.specs.declared.Chosen.{Chosen}
 use Rattle.calendar.specs.RowLaws.{One, if-one}
-use Rattle.ncal.specs.Promise.{NamesCalendar}
-use Rattle.ncal.specs.One.{named-one}
 use Rattle.dateparse.specs.Promise.{ParseDate}
 use Rattle.dateparse.specs.One.{parse-date-one}
 use Rattle.entry.specs.Entry.{Entry, tabbed, bare}
-use Rattle.entry.specs.Promise.{ByEntry, no-name, by-text, LineAnswer}
+use Rattle.entry.specs.Promise.{Naming, ByEntry, no-name, by-text, LineAnswer}
 
 entry-same : {l m name text name′ text′ : List ℕ} → l ≡ m → Entry l name text → Entry m name′ text′ → (name ≡ name′) × (text ≡ text′)
 entry-same e (tabbed w) (tabbed v) = parted-one w v e
@@ -20,17 +18,18 @@ entry-same e (tabbed {name} {text} w) (bare v) = absurd (never-parted name text 
 entry-same e (bare w) (tabbed {name} {text} v) = absurd (never-parted name text w (sym e))
 entry-same e (bare w) (bare v) = (e, refl)
 
-named-same : {name name′ : List ℕ} {a b : Chosen} → name ≡ name′ → NamesCalendar name a → NamesCalendar name′ b → a ≡ b
-named-same {name} {a = a} {b} e p q = named-one name a b p (subst (λ (s : List ℕ). NamesCalendar s b) (sym e) q)
+module _ {N : Naming} (names-one : (s : List ℕ) → One (N s)) where
+  named-same : {name name′ : List ℕ} {a b : Chosen} → name ≡ name′ → N name a → N name′ b → a ≡ b
+  named-same {name} {a = a} {b} e p q = names-one name a b p (subst (λ (s : List ℕ). N s b) (sym e) q)
 
-by-entry-one : (l : List ℕ) → One (ByEntry l)
-by-entry-one l a b (no-name p q) (no-name p′ q′) = let e = named-same (entry-same refl p p′ .0) q q′ in cc
-by-entry-one l a b (no-name p q) (by-text p′ q′ r′) = let e = named-same (entry-same refl p p′ .0) q q′ in let z : _≡_ {A = ℕ} 0 1 = cc in absurd (never z)
-by-entry-one l a b (by-text p q r) (no-name p′ q′) = let e = named-same (entry-same refl p p′ .0) q q′ in let z : _≡_ {A = ℕ} 0 1 = cc in absurd (never z)
-by-entry-one l a b (by-text {text} {c} p q r) (by-text {text = text′} {c = c′} p′ q′ r′) =
-    let e = named-same (entry-same refl p p′ .0) q q′ in
-    let f : c ≡ c′ = cc in
-    parse-date-one c text a b r (subst (λ (x : Calendar). ParseDate x text b) (sym f) (subst (λ (t : List ℕ). ParseDate c′ t b) (sym (entry-same refl p p′ .1)) r′))
+  by-entry-one : (l : List ℕ) → One (ByEntry N l)
+  by-entry-one l a b (no-name p q) (no-name p′ q′) = let e = named-same (entry-same refl p p′ .0) q q′ in cc
+  by-entry-one l a b (no-name p q) (by-text p′ q′ r′) = let e = named-same (entry-same refl p p′ .0) q q′ in let z : _≡_ {A = ℕ} 0 1 = cc in absurd (never z)
+  by-entry-one l a b (by-text p q r) (no-name p′ q′) = let e = named-same (entry-same refl p p′ .0) q q′ in let z : _≡_ {A = ℕ} 0 1 = cc in absurd (never z)
+  by-entry-one l a b (by-text {text} {c} p q r) (by-text {text = text′} {c = c′} p′ q′ r′) =
+      let e = named-same (entry-same refl p p′ .0) q q′ in
+      let f : c ≡ c′ = cc in
+      parse-date-one c text a b r (subst (λ (x : Calendar). ParseDate x text b) (sym f) (subst (λ (t : List ℕ). ParseDate c′ t b) (sym (entry-same refl p p′ .1)) r′))
 
-pub line-answer-one : (l : List ℕ) → One (LineAnswer l)
-line-answer-one l = if-one (λ n. by-entry-one l)
+  pub line-answer-one : (l : List ℕ) → One (LineAnswer N l)
+  line-answer-one l = if-one (λ n. by-entry-one l)

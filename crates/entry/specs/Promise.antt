@@ -1,4 +1,4 @@
--- What `line_answer` promises: the answer to a line, by its name and its text.
+-- What `line_answer` promises: the answer to a line, by its name and its text. What a name comes to is given: N.
 -- Assumes nothing.
 use Prim.Native.Nat.{ℕ, _<_}
 use mathlib.Core.List.{List}
@@ -8,17 +8,21 @@ use Rattle.calendar.specs.declared.Calendar.{Calendar}
 use Rattle.refusals.specs.declared.Refusal.{Refusal}
 use Rattle.calendar.specs.declared.Dated.{Dated}
 use Rattle.calendar.specs.declared.Dated.the-variants as Dated′
+use Rattle.calendar.specs.declared.Chosen.{Chosen}
 use Rattle.calendar.specs.declared.Chosen.the-variants as Chosen′
 use Rattle.calendar.specs.Rows.{If}
 use Rattle.calendar.specs.Promise.{refusal}
-use Rattle.ncal.specs.Promise.{NamesCalendar}
 use Rattle.dateparse.specs.Promise.{ParseDate}
 use Rattle.entry.specs.Entry.{longestEntry, Entry}
 
-pub data ByEntry (l : List ℕ) : Dated → Type 0 where
-  no-name : {name text : List ℕ} {why : Refusal} → Entry l name text → NamesCalendar name (Chosen′.Refused why) → ByEntry l (Dated′.Refused why)
-  by-text : {name text : List ℕ} {c : Calendar} {a : Dated} → Entry l name text → NamesCalendar name (Chosen′.Calendar c) → ParseDate c text a → ByEntry l a
+-- the answer to each name: its calendar, or its refusal
+abbrev pub Naming : Type 1
+Naming = List ℕ → Chosen → Type 0
+
+pub data ByEntry (N : Naming) (l : List ℕ) : Dated → Type 0 where
+  no-name : {name text : List ℕ} {why : Refusal} → Entry l name text → N name (Chosen′.Refused why) → ByEntry N l (Dated′.Refused why)
+  by-text : {name text : List ℕ} {c : Calendar} {a : Dated} → Entry l name text → N name (Chosen′.Calendar c) → ParseDate c text a → ByEntry N l a
 
 -- 20; then 19; then what the text comes to
-abbrev pub LineAnswer : List ℕ → Dated → Type 0
-LineAnswer l = If (longestEntry < length l) (Dated′.Refused (refusal 20 (pos 0))) (ByEntry l)
+abbrev pub LineAnswer : Naming → List ℕ → Dated → Type 0
+LineAnswer N l = If (longestEntry < length l) (Dated′.Refused (refusal 20 (pos 0))) (ByEntry N l)

@@ -134,7 +134,7 @@ pub fn happened(state: State, written: bool, got: isize, block: &[u8; BLOCK_SIZE
     }
 }
 
-fn arrived(got: isize, block: &[u8; BLOCK_SIZE]) -> Event
+pub fn arrived(got: isize, block: &[u8; BLOCK_SIZE]) -> Event
     ensures { λ e. ⌜ e ≡ arrivedOf got ⌝ }
 {
     if got < 0 {

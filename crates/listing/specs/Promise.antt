@@ -1,47 +1,41 @@
 -- What is promised of the line that is held from one block of input to the next, and of a block. What is written for a line is said in `Lines`.
+-- The answer to each name is given: N.
 -- Assumes nothing.
 use Prim.Native.Nat.{ℕ, _+_, _≤_, _<_}
-use mathlib.Core.List.{List, [], _∷_, _++_}
-use lib.ListN.{length, take, drop}
+use mathlib.Core.List.{List, []}
+use lib.ListN.{length, take}
 use lib.IntN.{pos}
-use mathlib.Core.Path.{_≡_}
 use Rattle.calendar.specs.declared.Dated.{Dated}
 use Rattle.calendar.specs.declared.Dated.the-variants as Dated′
 use Rattle.calendar.specs.Promise.{refusal}
 use Rattle.writer.specs.Promise.{put}
 use Rattle.entry.specs.Entry.{longestEntry}
-use Rattle.entry.specs.Promise.{LineAnswer}
+use Rattle.entry.specs.Promise.{Naming, LineAnswer}
 use Rattle.linetext.specs.Line.{longestLine}
 use Rattle.linetext.specs.Promise.{LineOut}
-use Rattle.whole.specs.Text.{newline}
 use Rattle.linetext.specs.declared.Line.{Line}
 use Rattle.columns.specs.Columns.{lineOf}
-use Rattle.bytesearch.specs.Promise.{Without}
+use Rattle.textlines.specs.Promise.{TakesRest, TakesLine}
 
--- ---- the line that is held in the line buffer l: n bytes of it stand there, or it is too long, and n is above `longestEntry`
-
--- the bytes q are added to it
-pub data AddsToLine (l : List ℕ) (n : ℕ) (q : List ℕ) : List ℕ → ℕ → Type 0 where
-  fits : n + length q ≤ longestEntry → AddsToLine l n q (put l n q) (n + length q)
-  over : longestEntry < n + length q → AddsToLine l n q l (longestEntry + 1)
+-- ---- the line that is held in the line buffer l: n bytes of it stand there, or it is too long, and n is above `longestEntry` (`Promise` of the crate `textlines`)
 
 -- the answer to the line, when it is finished
-pub data HeldAnswer (l : List ℕ) (n : ℕ) : Dated → Type 0 where
-  short : {a : Dated} → n ≤ longestEntry → LineAnswer (take n l) a → HeldAnswer l n a
-  long : longestEntry < n → HeldAnswer l n (Dated′.Refused (refusal 20 (pos 0)))
+pub data HeldAnswer (N : Naming) (l : List ℕ) (n : ℕ) : Dated → Type 0 where
+  short : {a : Dated} → n ≤ longestEntry → LineAnswer N (take n l) a → HeldAnswer N l n a
+  long : longestEntry < n → HeldAnswer N l n (Dated′.Refused (refusal 20 (pos 0)))
 
 -- the line of the listing for that answer
-pub data HeldAs (l : List ℕ) (n : ℕ) : Line → Type 0 where
-  held-as : {a : Dated} → HeldAnswer l n a → HeldAs l n (lineOf a)
+pub data HeldAs (N : Naming) (l : List ℕ) (n : ℕ) : Line → Type 0 where
+  held-as : {a : Dated} → HeldAnswer N l n a → HeldAs N l n (lineOf a)
 
 -- and what is written for it
-pub data HeldLine (l : List ℕ) (n : ℕ) : List ℕ → Type 0 where
-  held-line : {a : Dated} {t : List ℕ} → HeldAnswer l n a → LineOut (lineOf a) t → HeldLine l n t
+pub data HeldLine (N : Naming) (l : List ℕ) (n : ℕ) : List ℕ → Type 0 where
+  held-line : {a : Dated} {t : List ℕ} → HeldAnswer N l n a → LineOut (lineOf a) t → HeldLine N l n t
 
 -- the last line, which needs no newline; none where nothing is held
-pub data LastLine (l : List ℕ) : ℕ → List ℕ → Type 0 where
-  no-more : LastLine l 0 []
-  one-more : {n : ℕ} {t : List ℕ} → 0 < n → HeldLine l n t → LastLine l n t
+pub data LastLine (N : Naming) (l : List ℕ) : ℕ → List ℕ → Type 0 where
+  no-more : LastLine N l 0 []
+  one-more : {n : ℕ} {t : List ℕ} → 0 < n → HeldLine N l n t → LastLine N l n t
 
 -- ---- a block, from an offset on: how far the listing is in it
 
@@ -57,13 +51,13 @@ abbrev pub blockState : ℕ → List ℕ → ℕ → List ℕ → ℕ → BlockS
 blockState at l n o u = record { at = at; line = l; held = n; out = o; used = u }
 
 -- one line more, or the rest of the block where its last line goes on in the next one
-pub data NextLine (b : List ℕ) (s : BlockState) : BlockState → Type 0 where
-  rest : {q l : List ℕ} {n : ℕ} → drop (s .at) b ≡ q → Without newline q → AddsToLine (s .line) (s .held) q l n → NextLine b s (blockState (s .at + length q) l n (s .out) (s .used))
-  line : {q l t : List ℕ} {n : ℕ} (u : List ℕ) → drop (s .at) b ≡ q ++ (newline ∷ u) → Without newline q → AddsToLine (s .line) (s .held) q l n → HeldLine l n t → length t ≤ longestLine
-      → NextLine b s (blockState (s .at + length q + 1) l 0 (put (s .out) (s .used) t) (s .used + length t))
+pub data NextLine (N : Naming) (b : List ℕ) (s : BlockState) : BlockState → Type 0 where
+  rest : {at n : ℕ} {l : List ℕ} → TakesRest b (s .at) (s .line) (s .held) at l n → NextLine N b s (blockState at l n (s .out) (s .used))
+  line : {at n : ℕ} {l t : List ℕ} → TakesLine b (s .at) (s .line) (s .held) at l n → HeldLine N l n t → length t ≤ longestLine
+      → NextLine N b s (blockState at l 0 (put (s .out) (s .used) t) (s .used + length t))
 
 -- line after line, as long as the block has bytes and the output has room for the longest line
-pub data Lists (b : List ℕ) : BlockState → BlockState → Type 0 where
-  block-ends : {s : BlockState} → length b ≤ s .at → Lists b s s
-  out-of-room : {s : BlockState} → length (s .out) < s .used + longestLine → Lists b s s
-  goes-on : {s t e : BlockState} → s .at < length b → s .used + longestLine ≤ length (s .out) → NextLine b s t → Lists b t e → Lists b s e
+pub data Lists (N : Naming) (b : List ℕ) : BlockState → BlockState → Type 0 where
+  block-ends : {s : BlockState} → length b ≤ s .at → Lists N b s s
+  out-of-room : {s : BlockState} → length (s .out) < s .used + longestLine → Lists N b s s
+  goes-on : {s t e : BlockState} → s .at < length b → s .used + longestLine ≤ length (s .out) → NextLine N b s t → Lists N b t e → Lists N b s e

@@ -7,7 +7,7 @@ use Rattle.entry.proofs.named_before.Statement.{statement}
 use Rattle.entry.proofs.named_before.Tie as tie
 
 slice-aggregate-named : tie.Need-slice-aggregate-named
-slice-aggregate-named c = sym (length-take-le _ _ (c .before .before .pre))
+slice-aggregate-named c = sym (length-take-le _ _ (search needs))
 
 named-requires : tie.Need-named-requires
 named-requires c κs = search needs

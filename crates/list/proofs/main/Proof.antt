@@ -6,16 +6,25 @@ use Rattle.list.proofs.main.Statement.{statement}
 use Rattle.list.proofs.main.Tie as tie
 
 abbrev Inv-loop : tie.InvT-loop
-Inv-loop block₀ line₀ out₀ state₀ turns₀ block line out state turns = Unit
+Inv-loop names links block₀ line₀ out₀ state₀ turns₀ block line out state turns = Unit
 
 abbrev μ-loop : tie.MeasureT-loop
-μ-loop block₀ line₀ out₀ state₀ turns₀ block line out state turns = turns
+μ-loop names links block₀ line₀ out₀ state₀ turns₀ block line out state turns = turns
 
 large-buffer-requires : tie.Need-large-buffer-requires Inv-loop μ-loop
 large-buffer-requires c κs = tt
 
 large-buffer-requires-2 : tie.Need-large-buffer-requires-2 Inv-loop μ-loop
 large-buffer-requires-2 c κs = tt
+
+read-catalogue-requires : tie.Need-read-catalogue-requires Inv-loop μ-loop
+read-catalogue-requires c κs = tt
+
+complain-requires : tie.Need-complain-requires Inv-loop μ-loop
+complain-requires c κs = tt
+
+tell-requires : tie.Need-tell-requires Inv-loop μ-loop
+tell-requires c κs = tt
 
 start-requires : tie.Need-start-requires Inv-loop μ-loop
 start-requires c κs = tt
@@ -52,6 +61,9 @@ main-spec =
     μ-loop
     large-buffer-requires
     large-buffer-requires-2
+    read-catalogue-requires
+    complain-requires
+    tell-requires
     start-requires
     loop-holds
     goes-on-requires

@@ -2,6 +2,8 @@
 -- Assumes nothing.
 use Rattle.listing.specs.Promise.{blockState, Lists}
 use Rattle.listing.specs.Laws.{Reaches, reaches-start, reaches-on, next-grows}
+use Rattle.nametable.specs.Promise.{memory}
+use Rattle.catalogue.specs.Promise.{NamesIn}
 use borrow.Author.Tests.{leb-true, leb-false}
 use mathlib.Core.Path.{sym, _∙_}
 use native.Mathlib.Omega.{arith}
@@ -12,10 +14,10 @@ use Rattle.listing.proofs.list_block.Statement.{statement}
 use Rattle.listing.proofs.list_block.Tie as tie
 
 abbrev Inv-loop : tie.InvT-loop
-Inv-loop block from line₀ held out₀ used p₀ line out p = Reaches block (blockState from line₀ held out₀ used) (blockState (p .at) line (p .held) out (p .used))
+Inv-loop names links block from line₀ held out₀ used p₀ line out p = Reaches (NamesIn (memory names links)) block (blockState from line₀ held out₀ used) (blockState (p .at) line (p .held) out (p .used))
 
 abbrev μ-loop : tie.MeasureT-loop
-μ-loop block from line₀ held out₀ used p₀ line out p = length block - p .at
+μ-loop names links block from line₀ held out₀ used p₀ line out p = length block - p .at
 
 loop-holds : tie.Need-loop-holds Inv-loop μ-loop
 loop-holds c = reaches-start _ _

@@ -18,7 +18,7 @@ same-length : tie.Need-same-length
 same-length c = search needs
 
 returns : tie.Need-returns
-returns c = listed-as (c .before .before .before .before .line-answer .ensures) (rw (c .before .before .before .line-of .ensures) at (c .before .before .put-line .ensures))
+returns c = listed-as (c .before .before .before .before .before .line-answer .ensures) (rw (c .before .before .before .line-of .ensures) at (c .before .before .put-line .ensures))
 
 pub list-line-spec : {M : Type 1} → statement M
 list-line-spec = tie.close (tie.spec line-answer-requires line-of-requires put-line-requires same-length returns)

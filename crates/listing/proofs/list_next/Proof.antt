@@ -1,6 +1,8 @@
 -- `listing::list_next` meets its promise: the line ends in the block, or the block in the line.
 -- Assumes nothing.
-use Rattle.listing.specs.Laws.{next-rest, next-line}
+use Rattle.textlines.specs.Laws.{takes-rest, takes-line}
+use Rattle.listing.specs.Promise.{NextLine}
+use Rattle.listing.specs.Laws.{next-line}
 use Rattle.bytesearch.specs.Laws.{up-to-inside}
 use native.Mathlib.Omega.{arith}
 use borrow.Author.Needs.{needs}
@@ -29,17 +31,17 @@ add-to-line-requires c κs = search needs
 put-held-requires : tie.Need-put-held-requires
 put-held-requires c κs = search needs
 
-add-t19 : tie.Need-add-t19
-add-t19 c = search needs
+add-t21 : tie.Need-add-t21
+add-t21 c = search needs
 
 same-length : tie.Need-same-length
 same-length c = search needs
 
 returns : tie.Need-returns
-returns c = next-line (c .before .before .before .before .before .before .add-to-line .ensures) (c .before .before .before .before .before .before .before .before .before .up-to .ensures) (c .before .before .before .before .before .if1 .taken) (omega (arith, c .before .before .before .before .before .before .before .before .before .before .before .before .pre .0)) (c .before .before .put-held .ensures)
+returns c = next-line (takes-line (c .before .before .before .before .before .before .add-to-line .ensures) (c .before .before .before .before .before .before .before .before .before .before .before .before .pre .0) (c .before .before .before .before .before .before .before .before .before .up-to .ensures) (c .before .before .before .before .before .if1 .taken)) (c .before .before .put-held .ensures)
 
 returns-2 : tie.Need-returns-2
-returns-2 c = next-rest (c .before .add-to-line .ensures) (c .before .before .before .before .up-to .ensures) (c .if1 .left) (c .before .before .before .before .before .before .before .pre .0)
+returns-2 c = NextLine.rest (takes-rest (c .before .add-to-line .ensures) (c .before .before .before .before .before .before .before .pre .0) (c .before .before .before .before .up-to .ensures) (c .if1 .left))
 
 pub list-next-spec : {M : Type 1} → statement M
 list-next-spec =
@@ -51,7 +53,7 @@ list-next-spec =
     part-add-to-line-end
     add-to-line-requires
     put-held-requires
-    add-t19
+    add-t21
     same-length
     returns
     returns-2)

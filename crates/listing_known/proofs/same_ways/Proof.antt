@@ -8,10 +8,10 @@ use Rattle.listing_known.proofs.same_ways.Statement.{statement}
 use Rattle.listing_known.proofs.same_ways.Tie as tie
 
 abbrev Inv-loop : tie.InvT-loop
-Inv-loop input line₀ out₀ expected same₀ cut₀ line out same cut = length out ≡ length out₀
+Inv-loop names links input line₀ out₀ expected same₀ cut₀ line out same cut = length out ≡ length out₀
 
 abbrev μ-loop : tie.MeasureT-loop
-μ-loop input line₀ out₀ expected same₀ cut₀ line out same cut = length input - cut
+μ-loop names links input line₀ out₀ expected same₀ cut₀ line out same cut = length input - cut
 
 loop-holds : tie.Need-loop-holds Inv-loop μ-loop
 loop-holds c = refl
@@ -29,7 +29,7 @@ loop-less : tie.Need-loop-less Inv-loop μ-loop
 loop-less c = omega arith
 
 loop-again : tie.Need-loop-again Inv-loop μ-loop
-loop-again c = c .before .before .before .is-same .kept .1 .1 .1 .0 ∙ c .before .before .before .before .before .before .before .loop .inv
+loop-again c = c .before .before .before .is-same .kept .1 .1 .1 .1 .1 .0 ∙ c .before .before .before .before .before .before .before .loop .inv
 
 same-length : tie.Need-same-length Inv-loop μ-loop
 same-length c = c .before .loop .inv
