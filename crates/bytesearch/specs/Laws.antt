@@ -24,7 +24,7 @@ without-both (Without.more n w) v = Without.more n (without-both w v)
 pub going-start : (b : ℕ) (s : List ℕ) (from : ℕ) → Going b s from from
 going-start b s from = record { passed = []; is = refl; without = Without.none; offset = omega arith }
 
-none-left : (l : List ℕ) → length l ≤ 0 → l ≡ []
+pub none-left : (l : List ℕ) → length l ≤ 0 → l ≡ []
 none-left [] h = refl
 none-left (x ∷ l) h = absurd (omega arith)
 
