@@ -1,4 +1,5 @@
--- A catalogue of house calendars, as the request M-100 has it. What the form of a line is stands in `Form` of the crate `houseline`. Nothing here reads.
+-- A catalogue of house calendars, as the request M-100 has it. What the form of a line is stands in `Form` of the crate `houseline`. Nothing here
+-- reads.
 -- Assumes nothing.
 use Prim.Native.Nat.{ℕ, _+_, _<_}
 use mathlib.Core.Path.{_≡_}

@@ -1,7 +1,7 @@
--- THE THEOREMS ON A CATALOGUE.
--- Every file has exactly one of the two meanings, whatever its bytes are (`means-some`; that it is one is in `One`). Read line after line, it comes to that
--- meaning (`reads-catalogue`). Every calendar that it gives is accepted (`catalogue-accepted`), so all that is shown of accepted calendars holds of it; no two of its
--- names are equal (`catalogue-distinct`), and none is built in (`catalogue-apart`). A name is looked up as the catalogue says (`named-with`).
+-- THE THEOREMS ON A CATALOGUE. Every file has exactly one of the two meanings, whatever its bytes are (`means-some`; that it is one is in `One`).
+-- Read line after line, it comes to that meaning (`reads-catalogue`). Every calendar that it gives is accepted (`catalogue-accepted`), so all that is
+-- shown of accepted calendars holds of it; no two of its names are equal (`catalogue-distinct`), and none is built in (`catalogue-apart`). A name is
+-- looked up as the catalogue says (`named-with`).
 -- Assumes nothing.
 use Prim.Native.Nat.{ℕ, zero, suc, _+_, _≤_, _<_}
 use mathlib.Core.Path.{_≡_, refl, sym, _∙_, ap, subst}

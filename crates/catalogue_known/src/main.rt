@@ -1,7 +1,7 @@
 // Reads catalogues, and looks names up in them. Standard input is one piece after the other: `c` for a catalogue or `n` for a name, how many bytes it
-// has, a newline, the bytes, a newline. A catalogue is read whole, and again cut in two at many places, each time into cleared memory. It gives a line
-// with the count of its lines, or `!` and the numbers of its refusal; then how many of the ways to cut it gave the same answer and left the same memory.
-// A name, looked up in the catalogue before it, gives a line with its calendar, or `!` and the numbers of the refusal.
+// has, a newline, the bytes, a newline. A catalogue is read whole, and again cut in two at many places, each time into cleared memory. It gives a
+// line with the count of its lines, or `!` and the numbers of its refusal; then how many of the ways to cut it gave the same answer and left the same
+// memory. A name, looked up in the catalogue before it, gives a line with its calendar, or `!` and the numbers of the refusal.
 
 ghost use Prim.Native.Nat.{_+_, _≤_, _<_};
 ghost use mathlib.Core.Path.{_≡_};

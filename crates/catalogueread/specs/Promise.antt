@@ -1,5 +1,5 @@
--- What is promised of a catalogue that is read in blocks, over any contents of the lent memory m, any count n of lines, and any line buffer l with any count h
--- of bytes in it.
+-- What is promised of a catalogue that is read in blocks, over any contents of the lent memory m, any count n of lines, and any line buffer l with
+-- any count h of bytes in it.
 -- Assumes nothing.
 use Prim.Native.Nat.{ℕ, _+_, _≤_, _<_}
 use mathlib.Core.List.{List}

@@ -1,5 +1,5 @@
--- THE THEOREMS ON A CATALOGUE READ IN BLOCKS.
--- In whatever parts a file is read into cleared memory, it comes to its meaning (`calls-catalogue`); so two ways of cutting it come to the same (`any-reads`).
+-- THE THEOREMS ON A CATALOGUE READ IN BLOCKS. In whatever parts a file is read into cleared memory, it comes to its meaning (`calls-catalogue`); so
+-- two ways of cutting it come to the same (`any-reads`).
 -- Assumes nothing.
 use Prim.Native.Nat.{ℕ}
 use mathlib.Core.Path.{_≡_, refl, sym, _∙_, ap, subst}

@@ -1,5 +1,5 @@
-// A catalogue read in blocks, which end anywhere. What has been read is plain lent memory, the count of the lines that it holds, and what is held of an unfinished
-// line. Each call answers for any contents of it.
+// A catalogue read in blocks, which end anywhere. What has been read is plain lent memory, the count of the lines that it holds, and what is held of
+// an unfinished line. Each call answers for any contents of it.
 // For users: all that is public.
 
 ghost use Prim.Native.Nat.{_<_, _≤_};

@@ -1,5 +1,5 @@
--- THE THEOREM ON A PROGRAM'S CATALOGUE.
--- A program that reads its catalogue as the turns say, and whose reads do not fail, comes to what the file means, in whatever parts that is read (`run-reads`).
+-- THE THEOREM ON A PROGRAM'S CATALOGUE. A program that reads its catalogue as the turns say, and whose reads do not fail, comes to what the file
+-- means, in whatever parts that is read (`run-reads`).
 -- Assumes nothing.
 use Prim.Native.Nat.{ℕ, _≤_, min}
 use mathlib.Core.Path.{_≡_, refl, _∙_, ap, subst}
@@ -24,8 +24,8 @@ use Rattle.cataloguerun.specs.declared.CatalogueRun.the-variants.{Readin
 use Rattle.cataloguerun.specs.Promise.{Advances, Closes, GoesOn}
 use Rattle.cataloguerun.specs.Laws.{reads-in}
 
--- Turn after turn, where n lines and h bytes of an unfinished one are held: a read into the block b, and the next call. A read of no bytes tells that the file
--- has ended. Once a line is refused, the rest of the file is not read.
+-- Turn after turn, where n lines and h bytes of an unfinished one are held: a read into the block b, and the next call. A read of no bytes tells that
+-- the file has ended. Once a line is refused, the rest of the file is not read.
 pub data Turns : ℕ → ℕ → Memory → List ℕ → List ℕ → CatalogueRun → Memory → Type 0 where
   reads : {n h x n′ h′ : ℕ} {m m′ m″ : Memory} {l l′ b i : List ℕ} {r : CatalogueRun} (c : List ℕ) → length (x ∷ c) ≤ blockSize → take (length (x ∷ c)) b ≡ x ∷ c
       → GoesOn b m l (Reading n h) (arrivedOf (pos (length (x ∷ c)))) m′ l′ (Reading n′ h′) → Turns n′ h′ m′ l′ i r m″ → Turns n h m l ((x ∷ c) ++ i) r m″

@@ -1,4 +1,5 @@
--- A line of a catalogue: a name of 1 to `mostName` capitals, digits and underscores, a tab, an optional `-`, and one digit or more; at most `longestRead` bytes.
+-- A line of a catalogue: a name of 1 to `mostName` capitals, digits and underscores, a tab, an optional `-`, and one digit or more; at most
+-- `longestRead` bytes.
 -- Nothing here reads: each rule says of what parts the bytes are put together. A byte is any number below 256.
 -- Assumes nothing.
 use Prim.Native.Nat.{ℕ, _≤_, _<_}

@@ -17,7 +17,8 @@ use Rattle.linetext.specs.declared.Line.{Line}
 use Rattle.columns.specs.Columns.{lineOf}
 use Rattle.textlines.specs.Promise.{TakesRest, TakesLine}
 
--- ---- the line that is held in the line buffer l: n bytes of it stand there, or it is too long, and n is above `longestEntry` (`Promise` of the crate `textlines`)
+-- ---- the line that is held in the line buffer l: n bytes of it stand there, or it is too long, and n is above `longestEntry` (`Promise` of the
+-- crate `textlines`)
 
 -- the answer to the line, when it is finished
 pub data HeldAnswer (N : Naming) (l : List ℕ) (n : ℕ) : Dated → Type 0 where

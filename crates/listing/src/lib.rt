@@ -1,5 +1,6 @@
-// The listing: lines of a register in, lines of numbers out. A line is a calendar name, a tab and a date text; what is written for it is
-// the day that it comes to, or its refusal. The catalogue that was read before is in lent memory. Input comes in blocks that end anywhere. What is left of a line between two blocks is held: `held`.
+// The listing: lines of a register in, lines of numbers out. A line is a calendar name, a tab and a date text; what is written for it is the day that
+// it comes to, or its refusal. The catalogue that was read before is in lent memory. Input comes in blocks that end anywhere. What is left of a line
+// between two blocks is held: `held`.
 // For users: all that is public.
 mod held;
 

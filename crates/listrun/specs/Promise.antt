@@ -39,8 +39,8 @@ pub data Starts : CatalogueRun → List ℕ → List ℕ → State → Type 0 wh
 abbrev pub stateAt : Phase → ℕ → ℕ → ℕ → ℕ → State
 stateAt p at n h u = record { phase = p; at = at; count = n; held = h; used = u }
 
--- With the catalogue in the memory m, lines of the first n bytes of b, from an offset on, stand at the front of the output, with h bytes of a line held before them in l. Those bytes are then
--- used up, or the output was full before.
+-- With the catalogue in the memory m, lines of the first n bytes of b, from an offset on, stand at the front of the output, with h bytes of a line
+-- held before them in l. Those bytes are then used up, or the output was full before.
 pub data Advances (m : Memory) (b l o : List ℕ) (from n h : ℕ) : List ℕ → List ℕ → State → Type 0 where
   used-up : {l′ o′ : List ℕ} {at h′ u : ℕ} → Lists (NamesIn m) (take n b) (blockState from l h o 0) (blockState at l′ h′ o′ u) → n ≤ at → Advances m b l o from n h l′ o′ (stateAt Reading at n h′ u)
   within : {l′ o′ : List ℕ} {at h′ u : ℕ} → Lists (NamesIn m) (take n b) (blockState from l h o 0) (blockState at l′ h′ o′ u) → at < n → Advances m b l o from n h l′ o′ (stateAt Midway at n h′ u)

@@ -1,6 +1,6 @@
--- THE THEOREMS ON A RUN OF THE LISTING.
--- A program that has read its catalogue, does what the turns say, and whose reads and writes do not fail, writes the listing of its catalogue and its input,
--- whatever parts these come in (`run-lists`); so two runs on them write the same (`any-run`). Where the catalogue is refused the input is not read (`run-refused`). A turn within a block goes further in it (`goes-further`): no block holds a
+-- THE THEOREMS ON A RUN OF THE LISTING. A program that has read its catalogue, does what the turns say, and whose reads and writes do not fail,
+-- writes the listing of its catalogue and its input, whatever parts these come in (`run-lists`); so two runs on them write the same (`any-run`).
+-- Where the catalogue is refused the input is not read (`run-refused`). A turn within a block goes further in it (`goes-further`): no block holds a
 -- program for ever.
 -- Assumes nothing.
 use Prim.Native.Nat.{ℕ, _+_, _-_, _≤_, _<_}

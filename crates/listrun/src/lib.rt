@@ -1,5 +1,5 @@
-// A run of the listing, turn by turn: what is to be written next, by what has happened since the last turn. The catalogue was read before. A program around
-// it decides nothing.
+// A run of the listing, turn by turn: what is to be written next, by what has happened since the last turn. The catalogue was read before. A program
+// around it decides nothing.
 // For programs.
 
 ghost use mathlib.Core.Path.{_≡_};

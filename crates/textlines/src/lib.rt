@@ -1,5 +1,5 @@
-// The lines of a text that comes in blocks, which end anywhere: what a block has of a line is added to what is held of it in a line buffer. How a block is cut into
-// lines is said in `specs`, and done by the crates that read: a search that two of them called would not go in line.
+// The lines of a text that comes in blocks, which end anywhere: what a block has of a line is added to what is held of it in a line buffer. How a
+// block is cut into lines is said in `specs`, and done by the crates that read: a search that two of them called would not go in line.
 // For the crates above.
 
 ghost use Rattle.textlines.specs.Promise.{AddsToLine};
