@@ -75,15 +75,24 @@ def accepted(c):
     return c in ('J', 'G') or 1830692 <= c <= 2147439588
 
 
+FIRST = {}
+
+
+def first_with(c, n, parts):
+    """The first day of the year of day n, or of its month: walked back to day by day, and then remembered."""
+    year_or_month = label(c, n)[:parts]
+    if (c, year_or_month) not in FIRST:
+        first = n
+        while label(c, first - 1)[:parts] == year_or_month:
+            first -= 1
+        FIRST[c, year_or_month] = first
+    return FIRST[c, year_or_month]
+
+
 def record(c, n):
-    """year, ordinal, month, day, day ordinal, day number: the ordinals are counted back day by day."""
+    """year, ordinal, month, day, day ordinal, day number."""
     y, m, d = label(c, n)
-    in_month = in_year = 1
-    while label(c, n - in_month)[:2] == (y, m):
-        in_month += 1
-    while label(c, n - in_year)[0] == y:
-        in_year += 1
-    return (y, in_year, m, d, in_month, n)
+    return (y, n - first_with(c, n, 1) + 1, m, d, n - first_with(c, n, 2) + 1, n)
 
 
 def bearer(c, lab):

@@ -10,10 +10,10 @@ from calendars import *
 import catalogue
 
 
-def answer(line, houses):
-    if len(line) > 512:
-        return refused(20)
-    name, _, text = line.partition(b'\t')
+# ---- what every program has that answers names and dates
+
+def dated(name, text, houses):
+    """The answer to a calendar name and a date text."""
     calendar = catalogue.named(houses, name)
     return calendar if calendar == refused(19) else parse(calendar, text)
 
@@ -25,11 +25,10 @@ def columns(told):
     return (n, y, ordinal, m, d, n % 7 + 1)
 
 
-def answers(houses, data):
-    """A refused catalogue is the one answer there is."""
-    if catalogue.is_refused(houses):
-        return [houses]
-    return [answer(line, houses) for line in catalogue.lines_of(data)]
+def written(answers):
+    """The header, and a line for each answer."""
+    lines = [('jdn', 'year', 'ordinal', 'month', 'day', 'weekday'), *map(columns, answers)]
+    return ''.join('\t'.join(map(str, line)) + '\n' for line in lines).encode()
 
 
 def read_catalogue(files):
@@ -39,7 +38,25 @@ def read_catalogue(files):
         return f.read()
 
 
-houses = catalogue.meaning(read_catalogue(sys.argv[1:]))
-print('jdn\tyear\tordinal\tmonth\tday\tweekday')
-for told in answers(houses, sys.stdin.buffer.read()):
-    print('\t'.join(map(str, columns(told))))
+def run(answers):
+    """Standard input to standard output, by the answers to an input; a refused catalogue is the one answer there is."""
+    houses = catalogue.meaning(read_catalogue(sys.argv[1:]))
+    told = [houses] if catalogue.is_refused(houses) else answers(sys.stdin.buffer.read(), houses)
+    sys.stdout.buffer.write(written(told))
+
+
+# ---- the listing
+
+def answer(line, houses):
+    if len(line) > 512:
+        return refused(20)
+    name, _, text = line.partition(b'\t')
+    return dated(name, text, houses)
+
+
+def answers(data, houses):
+    return [answer(line, houses) for line in catalogue.lines_of(data)]
+
+
+if __name__ == '__main__':
+    run(answers)
