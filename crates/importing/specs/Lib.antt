@@ -3,3 +3,5 @@
 pub mod Import
 pub mod Promise
 pub mod Laws
+pub mod One
+pub mod Theorems
