@@ -15,16 +15,19 @@ use Rattle.refusals.specs.declared.Refusal.{Refusal}
 use Rattle.writer.specs.Promise.{put, Writes, Puts}
 use Rattle.writer.specs.Laws.{length-put}
 use Rattle.writer.specs.declared.Written.{Written}
+use Rattle.calendar.specs.declared.Chosen.{Chosen}
 use Rattle.entry.specs.Promise.{Naming}
 use Rattle.linetext.specs.Line.{longestLine}
 use Rattle.linetext.specs.Promise.{LineOut}
 use Rattle.linetext.specs.declared.Line.the-variants as Line′
 use Rattle.listing.specs.Promise.{HeldLine, LastLine}
-use Rattle.listing.specs.Laws.{Wrote, wrote-it, held-short}
+use Rattle.listing.specs.Laws.{Wrote, wrote-it, held-short, listed-also}
 use Rattle.csv.specs.declared.Scan.{Scan}
 use Rattle.csv.specs.declared.Scan.the-variants.{Entry, Miscounted, Stops, Undecided}
 use Rattle.csv.specs.Grammar.{comma, quote, NonEscaped, Quoted, Field, Record, LineEnd, longestRecord}
 use Rattle.csv.specs.Promise.{Closes, lineOf, Scans}
+use Rattle.csv.specs.Contents.{Outcome}
+use Rattle.importing.specs.Import.{Imported, AllImported}
 use Rattle.importing.specs.declared.Taken.{Taken}
 use Rattle.importing.specs.declared.Stopped.{Stopped}
 use Rattle.importing.specs.Promise.{mostPlace, placeOf, ImportState, importState, TakesRecord, Imports}
@@ -147,3 +150,14 @@ takes-miscounted p (wrote-it q h) = TakesRecord.miscounted p q
 pub takes-stop : {N : Naming} {ends : Bool} {o : ℕ} {b : List ℕ} {at : ℕ} {l x : List ℕ} {u : ℕ} {l′ x′ : List ℕ} {j n p : ℕ}
     → Scans ends (drop at b) l l′ (Stops n p) → Wrote (LineOut (Line′.Refusal (refusal n (placeOf (placeOf o at) p) (pos 0)))) x u x′ j → TakesRecord N ends o b (importState at l x u) l′ x′ (Taken.Ended j)
 takes-stop p (wrote-it q h) = TakesRecord.stops p q
+
+-- ---- where whatever N says of a name M says too, what is imported by N is imported by M
+
+module _ {N M : Naming} (also : (s : List ℕ) (a : Chosen) → N s a → M s a) where
+  imported-also : {r : Outcome} {t : List ℕ} → Imported N r t → Imported M r t
+  imported-also (Imported.listed x) = Imported.listed (listed-also also x)
+  imported-also (Imported.told x) = Imported.told x
+
+  pub all-also : {rs : List Outcome} {t : List ℕ} → AllImported N rs t → AllImported M rs t
+  all-also AllImported.none = AllImported.none
+  all-also (AllImported.next p r) = AllImported.next (imported-also p) (all-also r)

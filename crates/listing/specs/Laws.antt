@@ -108,7 +108,7 @@ wrote-inside {b = b} {at} (Writes.writes {t} x (Puts.done h)) = omega (arith, le
 
 -- where whatever N says of a name M says too, lines listed by N are listed by M
 module _ {N M : Naming} (also : (s : List ℕ) (a : Chosen) → N s a → M s a) where
-  listed-also : {l t : List ℕ} → Listed N l t → Listed M l t
+  pub listed-also : {l t : List ℕ} → Listed N l t → Listed M l t
   listed-also (listed q x) = listed (answer-also also q) x
 
   pub all-also : {ls : List (List ℕ)} {t : List ℕ} → AllListed N ls t → AllListed M ls t
