@@ -14,7 +14,8 @@ use Rattle.writer.specs.Laws.{put-none, Copying, copying-on, copying-done}
 use Rattle.filter.specs.declared.Phase.the-variants.{Reading, Midway, Closing}
 use Rattle.filter.specs.declared.Event.{Event}
 use Rattle.filter.specs.declared.State.{State}
-use Rattle.filter.specs.Promise.{blockSize, eventOf, stateWith}
+use Rattle.filter.specs.Promise.{blockSize, roomOf, eventOf, stateWith}
+use Rattle.filter.specs.Laws.{room-fits}
 use Rattle.listrun.specs.Promise.{stateAt}
 use Rattle.nametable.specs.Promise.{Memory}
 use Rattle.catalogue.specs.Promise.{NamesIn}
@@ -23,13 +24,20 @@ use Rattle.importing.specs.declared.Stopped.{Stopped}
 use Rattle.importing.specs.declared.Stopped.the-variants as Stopped′
 use Rattle.importing.specs.Promise.{placeOf, importState, Imports}
 use Rattle.importrun.specs.declared.ImportRun.{ImportRun}
-use Rattle.importrun.specs.Promise.{runWith, Keeps, Advances, GoesOn}
+use Rattle.importrun.specs.Promise.{runWith, keptOf, roomLeft, Keeps, Advances, GoesOn}
 
 pub kept-all : (h : ℕ) {n : ℕ} → h < n → h ≡ min h n
 kept-all h k = sym (min-eq-left (omega arith))
 
 pub kept-most : (h : ℕ) {n : ℕ} → n ≤ h → n ≡ min h n
 kept-most h k = sym (min-eq-right k)
+
+-- what is read after them lies in the block
+pub reads-fit : (s : State) (w : Bool) → keptOf s + roomLeft s w ≤ blockSize
+reads-fit s w = within (min (s .held) blockSize) (roomOf (s .phase) w) (omega arith) (room-fits (s .phase) w)
+  where
+    within : (k n : ℕ) → k ≤ blockSize → n ≤ blockSize → k + (n - k) ≤ blockSize
+    within k n h i = omega arith
 
 -- ---- bytes moved to the front: t are those that are moved
 

@@ -17,14 +17,8 @@ large-buffer-requires c κs = tt
 large-buffer-requires-2 : tie.Need-large-buffer-requires-2 Inv-loop μ-loop
 large-buffer-requires-2 c κs = tt
 
-read-catalogue-requires : tie.Need-read-catalogue-requires Inv-loop μ-loop
-read-catalogue-requires c κs = tt
-
-complain-requires : tie.Need-complain-requires Inv-loop μ-loop
-complain-requires c κs = tt
-
-tell-requires : tie.Need-tell-requires Inv-loop μ-loop
-tell-requires c κs = tt
+read-requires : tie.Need-read-requires Inv-loop μ-loop
+read-requires c κs = tt
 
 start-requires : tie.Need-start-requires Inv-loop μ-loop
 start-requires c κs = tt
@@ -61,9 +55,7 @@ main-spec =
     μ-loop
     large-buffer-requires
     large-buffer-requires-2
-    read-catalogue-requires
-    complain-requires
-    tell-requires
+    read-requires
     start-requires
     loop-holds
     goes-on-requires

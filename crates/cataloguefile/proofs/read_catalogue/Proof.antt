@@ -1,9 +1,9 @@
--- `list::read_catalogue` ends: the number of turns that are left falls.
+-- `cataloguefile::read_catalogue` ends: the number of turns that are left falls.
 -- Assumes nothing.
 use Prim.{Unit}
 use native.Mathlib.Omega.{arith}
-use Rattle.list.proofs.read_catalogue.Statement.{statement}
-use Rattle.list.proofs.read_catalogue.Tie as tie
+use Rattle.cataloguefile.proofs.read_catalogue.Statement.{statement}
+use Rattle.cataloguefile.proofs.read_catalogue.Tie as tie
 
 abbrev Inv-loop : tie.InvT-loop
 Inv-loop names₀ links₀ block₀ line₀ file run₀ turns₀ names links block line run turns = Unit
