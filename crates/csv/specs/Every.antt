@@ -74,11 +74,11 @@ module _ (b : ℕ) (r : List ℕ) where
 
       short : length (l ++ (quote ∷ m)) < longestRecord → Stop ((l ++ (quote ∷ m)) ++ (b ∷ r))
       short k = ⊎-elim
-          (λ e. go (Where.closed (length l)) fs f (subst (λ (x : List ℕ). Begun x (Where.closed (length l)) fs f) (sym (append-assoc l (quote ∷ m) (b ∷ [])) ) (subst (λ (i : ℕ). Begun (l ++ (quote ∷ (m ++ (i ∷ [])))) (Where.closed (length l)) fs f) (sym e) (Begun.closed p q))) k)
+          (λ e. go (Where.closed (length l)) fs f (subst (λ (x : List ℕ). Begun x (Where.closed (length l)) fs f) (sym (append-assoc l (quote ∷ m) (b ∷ []))) (subst (λ (i : ℕ). Begun (l ++ (quote ∷ (m ++ (i ∷ [])))) (Where.closed (length l)) fs f) (sym e) (Begun.closed p q))) k)
           (λ e. ⊎-elim
-            (λ t. go (Where.inside (length l)) fs (f ++ (b ∷ [])) (subst (λ (x : List ℕ). Begun x (Where.inside (length l)) fs (f ++ (b ∷ []))) (sym (append-assoc l (quote ∷ m) (b ∷ []))) (Begun.inside p (quoted-append q (Quoted.byte t Quoted.none)))) k)
-            (λ t. Stop.faulty begun (Faulty.in-quotes k e t) refl)
-            (quoted-or-not b))
+          (λ t. go (Where.inside (length l)) fs (f ++ (b ∷ [])) (subst (λ (x : List ℕ). Begun x (Where.inside (length l)) fs (f ++ (b ∷ []))) (sym (append-assoc l (quote ∷ m) (b ∷ []))) (Begun.inside p (quoted-append q (Quoted.byte t Quoted.none)))) k)
+          (λ t. Stop.faulty begun (Faulty.in-quotes k e t) refl)
+          (quoted-or-not b))
           (eq-or-not b quote)
 
   -- outside quotes, where no line end stands there

@@ -1,6 +1,6 @@
 -- What the proofs need: which bytes go on in a field, how the beginning of a record grows, and how it ends.
 -- Assumes nothing.
-use Prim.Native.Nat.{ℕ, zero, suc, _+_, _≤_, _<_}
+use Prim.Native.Nat.{ℕ, zero, suc, _+_, _≤_, _<_, min}
 use mathlib.Core.Path.{_≡_, refl, sym, _∙_, ap, ap₂, subst}
 use mathlib.Core.Bool.{Bool, true, false, true≢false}
 use mathlib.Core.List.{List, [], _∷_, _++_, append-assoc, append-nil}
@@ -13,10 +13,11 @@ use Rattle.whole.specs.Text.{newline}
 use Rattle.whole.specs.Tests.{lt-or-ge}
 use Rattle.csv.specs.declared.Found.{Found}
 use Rattle.csv.specs.declared.Next.{Next}
+use Rattle.csv.specs.declared.Usual.{Usual}
 use Rattle.csv.specs.Grammar.{comma, quote, return, TextData, QuotedByte, NonEscaped, Quoted, Field, Record, LineEnd, longestRecord}
 use Rattle.csv.specs.Contents.{Where, Fields, Begun, Outside, NoLineEnd, Faulty}
 use Rattle.csv.specs.Promise.{Closes, Open}
-use Rattle.csv.specs.Private.{Tells, Stands, AllStand, Along, Stopped, Run, FieldEnd, NextIs, OtherAt, Parted, firstComma, Within, OutsideAt, InsideAt, Finds}
+use Rattle.csv.specs.Private.{Tells, Stands, AllStand, Along, Stopped, Run, FieldEnd, NextIs, OtherAt, Parted, firstComma, Within, OutsideAt, InsideAt, PairOf, Finds, UsualField, EndsUsual, QuoteAt, FindsUsual}
 
 -- ---- a byte
 
@@ -89,8 +90,9 @@ all-snoc b (AllStand.more u r) t = AllStand.more u (all-snoc b r t)
 pub along-start : {q : Bool} (s : List ℕ) {from : ℕ} → from ≤ length s → Along q s from from
 along-start s h = record { bytes = []; is = refl; all = AllStand.none; offset = omega arith; within = h; short = λ k. k }
 
-pub along-on : {q : Bool} {s : List ℕ} {from i : ℕ} → Along q s from i → i < length s → i < longestRecord → Stands q (getD s i 0) → Along q s from (i + 1)
-along-on {q} {s} {from} {i} a h k t =
+pub along-on : {q : Bool} {s : List ℕ} {from i : ℕ} → Along q s from i → i < min (length s) longestRecord → Stands q (getD s i 0) → Along q s from (i + 1)
+along-on {q} {s} {from} {i} a l t =
+    let h : i < length s = omega arith in
     record {
       bytes = a .bytes ++ (getD s i 0 ∷ []);
       is = a .is ∙ ap (λ (x : List ℕ). a .bytes ++ x) (drop-cons s i 0 h ∙ ap (λ (n : ℕ). getD s i 0 ∷ drop n s) one-on) ∙ sym (append-assoc (a .bytes) (getD s i 0 ∷ []) (drop (i + 1) s));
@@ -106,8 +108,8 @@ along-on {q} {s} {from} {i} a h k t =
 pub stopped-byte : {q : Bool} (s : List ℕ) {i : ℕ} → i < length s → (Stands q (getD s i 0) → ⊥) → Stopped q i (drop i s)
 stopped-byte {q} s {i} h f = subst (Stopped q i) (sym (drop-cons s i 0 h)) (Stopped.byte f)
 
-pub stopped-end : {q : Bool} (s : List ℕ) {i : ℕ} → length s ≤ i → Stopped q i (drop i s)
-stopped-end {q} s {i} h = subst (Stopped q i) (sym (drop-of-length-le s h)) Stopped.no-more
+pub stopped-end : {q : Bool} (s : List ℕ) {i : ℕ} → min (length s) longestRecord ≤ i → Stopped q i (drop i s)
+stopped-end {q} s {i} h = ⊎-elim (λ k. subst (Stopped q i) (sym (drop-of-length-le s {i = i} (omega arith))) Stopped.no-more) (λ k. Stopped.full (omega arith)) (lt-or-ge (length s) longestRecord)
 
 pub field-closed : {s : List ℕ} {at : ℕ} {q : Bool} → q ≡ true → FieldEnd s at q at
 field-closed {s} {at} e = subst (λ (q : Bool). FieldEnd s at q at) (sym e) FieldEnd.closed
@@ -321,14 +323,14 @@ pub field-on : {s : List ℕ} {at end : ℕ} {q : Bool} → FieldEnd s at q end 
 field-on FieldEnd.closed = omega arith
 field-on (FieldEnd.text r) = omega (arith, r .along .offset)
 
-module _ {ends : Bool} {s : List ℕ} {end k c : ℕ} (p : Piece s end k c) where
-  -- the record ends
-  pub closes : {r : List ℕ} {n : ℕ} → drop end s ≡ r → NextIs ends end r (Next.Ends n) → Closes ends (take end s) s n
-  closes d (NextIs.line-end {e} r x h) = Closes.line-end r x (all-of-it s end d) (h ∙ ap (λ (i : ℕ). i + length e) (sym (as-long (p .within))))
-  closes d (NextIs.text-ends t) = Closes.text-ends t (all-of-it s end d ∙ append-nil (take end s)) (sym (as-long (p .within)))
+-- the record ends
+closes : {ends : Bool} {s r : List ℕ} {end n : ℕ} → Within s end → drop end s ≡ r → NextIs ends end r (Next.Ends n) → Closes ends (take end s) s n
+closes {s = s} {end = end} w d (NextIs.line-end {e} r x h) = Closes.line-end r x (all-of-it s end d) (h ∙ ap (λ (i : ℕ). i + length e) (sym (as-long w)))
+closes {s = s} {end = end} w d (NextIs.text-ends t) = Closes.text-ends t (all-of-it s end d ∙ append-nil (take end s)) (sym (as-long w))
 
+module _ {ends : Bool} {s : List ℕ} {end k c : ℕ} (p : Piece s end k c) where
   pub finds-other : {n : ℕ} → (k ≡ 1 → ⊥) → NextIs ends end (drop end s) (Next.Ends n) → Finds ends s (Found.Other n)
-  finds-other h x = Finds.other (subst (λ (y : List ℕ). Record y (p .fields ++ (p .holds ∷ []))) (sym (p .is)) (record-of (p .all-fields) (p .field))) (λ e. h (omega (arith, e, p .count, length-append (p .fields) (p .holds ∷ [])))) (p .within) (closes refl x)
+  finds-other h x = Finds.other (subst (λ (y : List ℕ). Record y (p .fields ++ (p .holds ∷ []))) (sym (p .is)) (record-of (p .all-fields) (p .field))) (λ e. h (omega (arith, e, p .count, length-append (p .fields) (p .holds ∷ [])))) (p .within) (closes (p .within) refl x)
 
   pub finds-undecided : {r : List ℕ} → drop end s ≡ r → NextIs ends end r Next.Undecided → Finds ends s Found.Undecided
   finds-undecided d (NextIs.bytes-end t) = Finds.undecided t (subst Open (sym (all-of-it s end d ∙ append-nil (take end s))) (Open.begun (p .begun) (omega (arith, as-long (p .within), p .within .short))))
@@ -353,7 +355,7 @@ finds-pair {ends} {s} {end} {c = c} {n} p e x = go (p .parted) e (p .is)
   where
     go : {l : List ℕ} {k d : ℕ} → Parted l k d → k ≡ 1 → take end s ≡ l ++ p .bytes → Finds ends s (Found.Pair d end n)
     go Parted.none h i = absurd (omega arith)
-    go (Parted.some {l} q Fields.none) h i = Finds.pair q (p .field) refl (p .within) (i ∙ append-assoc l (comma ∷ []) (p .bytes)) (closes p refl x)
+    go (Parted.some {l} q Fields.none) h i = Finds.pair (PairOf.pair q (p .field) refl (p .within) (i ∙ append-assoc l (comma ∷ []) (p .bytes)) (closes (p .within) refl x))
     go (Parted.some q (Fields.more y r)) h i = absurd (omega arith)
 
 -- a quote, where a field may begin or goes on
@@ -447,3 +449,33 @@ closing-quote {s} {end} (InsideAt.inside {l} {m} w p q e d) h i g =
 
 pub at-start : (s : List ℕ) → OutsideAt s 0 false 0 0 0
 at-start s = OutsideAt.fresh (record { inside = omega arith; short = omega arith }) Parted.none refl
+
+-- ---- usual fields
+
+pub ends-nothing : {s : List ℕ} {from : ℕ} → from ≤ length s → EndsUsual s from from
+ends-nothing h = record { bytes = []; holds = []; field = UsualField.plain NonEscaped.none; is = refl; offset = omega arith; within = h }
+
+pub ends-text : {s : List ℕ} {from r : ℕ} → Along false s from r → EndsUsual s from r
+ends-text a = record { bytes = a .bytes; holds = a .bytes; field = UsualField.plain (plain-of (a .all)); is = a .is; offset = a .offset; within = a .within }
+
+pub ends-quoted : {s : List ℕ} {from end : ℕ} → QuoteAt s from → Along false s (from + 1) end → end < length s → getD s end 0 ≡ quote → EndsUsual s from (end + 1)
+ends-quoted {s} {from} {end} q a h e =
+    record {
+      bytes = quote ∷ (a .bytes ++ (quote ∷ []));
+      holds = a .bytes;
+      field = UsualField.quoted (plain-of (a .all));
+      is = here-is s from (q .inside) (q .is) ∙ ap (λ (x : List ℕ). quote ∷ x) (a .is ∙ ap (λ (x : List ℕ). a .bytes ++ x) (here-is s end h e) ∙ sym (append-assoc (a .bytes) (quote ∷ []) (drop (end + 1) s)));
+      offset = omega (arith, a .offset, length-append (a .bytes) (quote ∷ []));
+      within = omega arith;
+    }
+
+pub usual-found : {ends : Bool} {s : List ℕ} {c e n : ℕ} → EndsUsual s 0 c → c < length s → getD s c 0 ≡ comma → EndsUsual s (c + 1) e → e ≤ longestRecord → NextIs ends e (drop e s) (Next.Ends n) → FindsUsual ends s (Usual.Pair c e n)
+usual-found {ends} {s} {c} {e} a h d b k x =
+    let w : Within s e = record { inside = b .within; short = k } in
+    FindsUsual.pair (PairOf.pair (a .field) (b .field) (a .offset ∙ omega arith) w taken (closes w refl x))
+  where
+    all : s ≡ (a .bytes ++ (comma ∷ b .bytes)) ++ drop e s
+    all = a .is ∙ ap (λ (y : List ℕ). a .bytes ++ y) (here-is s c h d ∙ ap (λ (y : List ℕ). comma ∷ y) (b .is)) ∙ sym (append-assoc (a .bytes) (comma ∷ b .bytes) (drop e s))
+
+    taken : take e s ≡ a .bytes ++ (comma ∷ b .bytes)
+    taken = ap (take e) all ∙ take-at (a .bytes ++ (comma ∷ b .bytes)) (drop e s) e (omega (arith, a .offset, b .offset, length-append (a .bytes) (comma ∷ b .bytes)))

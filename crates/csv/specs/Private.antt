@@ -11,6 +11,7 @@ use Rattle.digits.specs.Promise.{pick}
 use Rattle.writer.specs.Laws.{PutText}
 use Rattle.csv.specs.declared.Found.{Found}
 use Rattle.csv.specs.declared.Next.{Next}
+use Rattle.csv.specs.declared.Usual.{Usual}
 use Rattle.csv.specs.Grammar.{comma, quote, return, TextData, QuotedByte, NonEscaped, Quoted, Field, Record, LineEnd, longestRecord}
 use Rattle.csv.specs.Contents.{Where, Fields, Begun, Outside, NoLineEnd, Faulty}
 use Rattle.csv.specs.Promise.{Closes, Open, lineOf}
@@ -100,11 +101,39 @@ pub data InsideAt (s : List ℕ) (at o k c : ℕ) : Type 0 where
 
 -- ---- what they find
 
+-- two fields, of which F says what they hold, with a comma between them at c, up to e, and then n
+pub data PairOf (F : List ℕ → List ℕ → Type 0) (ends : Bool) (s : List ℕ) (c e n : ℕ) : Type 0 where
+  pair : {l m f g : List ℕ} → F l f → F m g → c ≡ length l → Within s e → take e s ≡ l ++ (comma ∷ m) → Closes ends (take e s) s n → PairOf F ends s c e n
+
 pub data Finds (ends : Bool) (s : List ℕ) : Found → Type 0 where
-  pair : {l m f g : List ℕ} {c e n : ℕ} → Field l f → Field m g → c ≡ length l → Within s e → take e s ≡ l ++ (comma ∷ m) → Closes ends (take e s) s n → Finds ends s (Found.Pair c e n)
+  pair : {c e n : ℕ} → PairOf Field ends s c e n → Finds ends s (Found.Pair c e n)
   other : {fs : List (List ℕ)} {e n : ℕ} → Record (take e s) fs → (length fs ≡ 2 → ⊥) → Within s e → Closes ends (take e s) s n → Finds ends s (Found.Other n)
   stops : {e : ℕ} {w : Where} {fs : List (List ℕ)} {f : List ℕ} {n p : ℕ} → Within s e → Begun (take e s) w fs f → Faulty ends w e (drop e s) n p → Finds ends s (Found.Stops n p)
   undecided : ends ≡ false → Open s → Finds ends s Found.Undecided
+
+-- ---- usual fields: text, or text in quotes
+
+pub data UsualField : List ℕ → List ℕ → Type 0 where
+  plain : {l : List ℕ} → NonEscaped l → UsualField l l
+  quoted : {l : List ℕ} → NonEscaped l → UsualField (quote ∷ (l ++ (quote ∷ []))) l
+
+-- one stands from an offset up to r
+pub record EndsUsual (s : List ℕ) (from r : ℕ) : Type 0 where
+  pub bytes : List ℕ
+  pub holds : List ℕ
+  pub field : UsualField bytes holds
+  pub is : drop from s ≡ bytes ++ drop r s
+  pub offset : r ≡ from + length bytes
+  pub within : r ≤ length s
+
+pub record QuoteAt (s : List ℕ) (from : ℕ) : Type 0 where
+  pub inside : from < length s
+  pub is : getD s from 0 ≡ quote
+
+-- a record of two of them; of any other nothing is said
+pub data FindsUsual (ends : Bool) (s : List ℕ) : Usual → Type 0 where
+  pair : {c e n : ℕ} → PairOf UsualField ends s c e n → FindsUsual ends s (Usual.Pair c e n)
+  other : FindsUsual ends s Usual.Other
 
 -- ---- a field put into a buffer as it is unquoted, and two of them as a line
 
@@ -112,8 +141,9 @@ pub data Finds (ends : Bool) (s : List ℕ) : Found → Type 0 where
 abbrev pub bytesOf : ℕ → ℕ
 bytesOf b = pick (eqb b quote) 2 1
 
-pub record PutsField (l b : List ℕ) (at : ℕ) (b′ : List ℕ) (r : ℕ) : Type 0 where
-  pub puts : (f : List ℕ) → Field l f → PutText b at f b′ r
+-- the field l, of which F says what it holds
+pub record PutsField (F : List ℕ → List ℕ → Type 0) (l b : List ℕ) (at : ℕ) (b′ : List ℕ) (r : ℕ) : Type 0 where
+  pub puts : (f : List ℕ) → F l f → PutText b at f b′ r
   pub long : length b′ ≡ length b
   pub most : r ≤ at + length l
 
@@ -122,5 +152,5 @@ pub record PutsQuoted (l b : List ℕ) (at : ℕ) (b′ : List ℕ) (r : ℕ) : 
   pub long : length b′ ≡ length b
   pub most : r ≤ at + length l
 
-abbrev pub PutsLine : List ℕ → ℕ → ℕ → List ℕ → List ℕ → ℕ → Type 0
-PutsLine s c e b b′ r = (l m f g : List ℕ) → Field l f → Field m g → c ≡ length l → take e s ≡ l ++ (comma ∷ m) → PutText b 0 (lineOf f g) b′ r
+abbrev pub PutsLine : (List ℕ → List ℕ → Type 0) → List ℕ → ℕ → ℕ → List ℕ → List ℕ → ℕ → Type 0
+PutsLine F s c e b b′ r = (l m f g : List ℕ) → F l f → F m g → c ≡ length l → take e s ≡ l ++ (comma ∷ m) → PutText b 0 (lineOf f g) b′ r

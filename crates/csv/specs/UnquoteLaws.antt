@@ -17,10 +17,11 @@ use Rattle.writer.specs.declared.buffer.Copied.{Copied}
 use Rattle.writer.specs.Laws.{put-none, put-then, put-byte, PutText, put-on, length-put}
 use Rattle.csv.specs.declared.Found.{Found}
 use Rattle.csv.specs.declared.Scan.{Scan}
+use Rattle.csv.specs.declared.Usual.{Usual}
 use Rattle.csv.specs.Grammar.{comma, quote, QuotedByte, NonEscaped, Quoted, Field, Record, longestRecord}
 use Rattle.csv.specs.Contents.{Faulty}
 use Rattle.csv.specs.Promise.{lineOf, Scans}
-use Rattle.csv.specs.Private.{bytesOf, Finds, PutsField, PutsQuoted, PutsLine}
+use Rattle.csv.specs.Private.{bytesOf, PairOf, Finds, UsualField, FindsUsual, PutsField, PutsQuoted, PutsLine}
 use Rattle.csv.specs.Laws.{no-quote, quote-not-quoted, as-long}
 
 -- ---- a quoted field: i bytes of it are taken, and n is the offset after what they hold
@@ -144,7 +145,7 @@ copied-plain (Copies.copied h) = record { is = refl; offset = refl }
 pub copied-room : {l b : List ℕ} {at : ℕ} {b′ : List ℕ} → at + length l ≤ length b → Copies l b at b′ Copied.NoRoom → ⊥
 copied-room h (Copies.no-room k) = omega arith
 
-pub puts-quoted : {l b : List ℕ} {at : ℕ} {b′ : List ℕ} {r : ℕ} → getD l 0 0 ≡ quote → PutsQuoted l b at b′ r → PutsField l b at b′ r
+pub puts-quoted : {l b : List ℕ} {at : ℕ} {b′ : List ℕ} {r : ℕ} → getD l 0 0 ≡ quote → PutsQuoted l b at b′ r → PutsField Field l b at b′ r
 puts-quoted {l} {b} {at} {b′} {r} e p = record { puts = λ f q. go refl q; long = p .long; most = p .most }
   where
     go : {m f : List ℕ} → l ≡ m → Field m f → PutText b at f b′ r
@@ -152,7 +153,7 @@ puts-quoted {l} {b} {at} {b′} {r} e p = record { puts = λ f q. go refl q; lon
     go d (Field.non-escaped NonEscaped.none) = absurd (omega (arith, ap (λ (x : List ℕ). getD x 0 0) d))
     go d (Field.non-escaped (NonEscaped.more t q)) = absurd (no-quote (omega (arith, ap (λ (x : List ℕ). getD x 0 0) d)) (omega (arith, ap (λ (x : List ℕ). getD x 0 0) d)) t)
 
-pub puts-none : {l b : List ℕ} {at : ℕ} → length l ≡ 0 → PutsField l b at b at
+pub puts-none : {l b : List ℕ} {at : ℕ} → length l ≡ 0 → PutsField Field l b at b at
 puts-none {l} {b} {at} e = record { puts = λ f q. go refl q; long = refl; most = omega arith }
   where
     go : {m f : List ℕ} → l ≡ m → Field m f → PutText b at f b at
@@ -160,7 +161,7 @@ puts-none {l} {b} {at} e = record { puts = λ f q. go refl q; long = refl; most 
     go d (Field.non-escaped NonEscaped.none) = record { is = sym (put-none b at); offset = omega arith }
     go d (Field.non-escaped (NonEscaped.more t q)) = absurd (omega (arith, ap length d))
 
-pub puts-plain : {l b : List ℕ} {at : ℕ} {b′ : List ℕ} {r : ℕ} → at + length l ≤ length b → (getD l 0 0 ≡ quote → ⊥) → PutText b at l b′ r → PutsField l b at b′ r
+pub puts-plain : {l b : List ℕ} {at : ℕ} {b′ : List ℕ} {r : ℕ} → at + length l ≤ length b → (getD l 0 0 ≡ quote → ⊥) → PutText b at l b′ r → PutsField Field l b at b′ r
 puts-plain {l} {b} {at} {b′} {r} h n p = record { puts = λ f q. go refl q; long = ap length (p .is) ∙ length-put b at l h; most = omega (arith, p .offset) }
   where
     go : {m f : List ℕ} → l ≡ m → Field m f → PutText b at f b′ r
@@ -169,15 +170,35 @@ puts-plain {l} {b} {at} {b′} {r} h n p = record { puts = λ f q. go refl q; lo
 
 -- ---- what was found, as a line
 
-pub pair-room : {ends : Bool} {s : List ℕ} {c e n : ℕ} → Finds ends s (Found.Pair c e n) → (c < e) × (e ≤ length s) × (e ≤ longestRecord)
-pair-room {s = s} {e = e} (Finds.pair {l} {m} p q d w x y) = (omega (arith, as-long w, ap length x, length-append l (comma ∷ m)), w .inside, w .short)
+pub pair-room : {F : List ℕ → List ℕ → Type 0} {ends : Bool} {s : List ℕ} {c e n : ℕ} → PairOf F ends s c e n → (c < e) × (e ≤ length s) × (e ≤ longestRecord)
+pair-room (PairOf.pair {l} {m} p q d w x y) = (omega (arith, as-long w, ap length x, length-append l (comma ∷ m)), w .inside, w .short)
 
-pub scans-pair : {ends : Bool} {s b b′ : List ℕ} {c e n r : ℕ} → Finds ends s (Found.Pair c e n) → PutsLine s c e b b′ r → Scans ends s b b′ (Scan.Entry r n)
-scans-pair {ends} {s} {b} {b′} {n = n} {r} (Finds.pair {l} {m} {f} {g} p q d w x y) puts =
+scans-pair : {F : List ℕ → List ℕ → Type 0} {ends : Bool} {s b b′ : List ℕ} {c e n r : ℕ} → ((l f : List ℕ) → F l f → Field l f) → PairOf F ends s c e n → PutsLine F s c e b b′ r → Scans ends s b b′ (Scan.Entry r n)
+scans-pair {ends = ends} {s} {b} {b′} {n = n} {r} is (PairOf.pair {l} {m} {f} {g} p q d w x y) puts =
     let t = puts l m f g p q d x in
     let k : r ≡ length (lineOf f g) = t .offset ∙ zero-add (length (lineOf f g)) in
     subst (λ (z : List ℕ). Scans ends s b z (Scan.Entry r n)) (sym (t .is)) (subst (λ (i : ℕ). Scans ends s b (put b 0 (lineOf f g)) (Scan.Entry i n)) (sym k)
-    (Scans.entry (subst (λ (z : List ℕ). Record z (f ∷ g ∷ [])) (sym x) (Record.more p (Record.last q))) (omega (arith, as-long w, w .short)) y))
+    (Scans.entry (subst (λ (z : List ℕ). Record z (f ∷ g ∷ [])) (sym x) (Record.more (is l f p) (Record.last (is m g q)))) (omega (arith, as-long w, w .short)) y))
+
+pub the-pair : {ends : Bool} {s : List ℕ} {c e n : ℕ} → Finds ends s (Found.Pair c e n) → PairOf Field ends s c e n
+the-pair (Finds.pair p) = p
+
+pub the-usual : {ends : Bool} {s : List ℕ} {c e n : ℕ} → FindsUsual ends s (Usual.Pair c e n) → PairOf UsualField ends s c e n
+the-usual (FindsUsual.pair p) = p
+
+pub scans-any : {ends : Bool} {s b b′ : List ℕ} {c e n r : ℕ} → Finds ends s (Found.Pair c e n) → PutsLine Field s c e b b′ r → Scans ends s b b′ (Scan.Entry r n)
+scans-any p q = scans-pair (λ l f x. x) (the-pair p) q
+
+quoted-text : {l : List ℕ} → NonEscaped l → Quoted l l
+quoted-text NonEscaped.none = Quoted.none
+quoted-text (NonEscaped.more t r) = Quoted.byte (QuotedByte.text t) (quoted-text r)
+
+usual-field : (l f : List ℕ) → UsualField l f → Field l f
+usual-field l f (UsualField.plain q) = Field.non-escaped q
+usual-field l f (UsualField.quoted q) = Field.escaped (quoted-text q)
+
+pub scans-usual : {ends : Bool} {s b b′ : List ℕ} {c e n r : ℕ} → FindsUsual ends s (Usual.Pair c e n) → PutsLine UsualField s c e b b′ r → Scans ends s b b′ (Scan.Entry r n)
+scans-usual p q = scans-pair usual-field (the-usual p) q
 
 module _ {ends : Bool} {s b : List ℕ} where
   pub scans-other : {n : ℕ} → Finds ends s (Found.Other n) → Scans ends s b b (Scan.Miscounted n)
@@ -191,7 +212,7 @@ module _ {ends : Bool} {s b : List ℕ} where
 
 -- ---- two fields and a tab
 
-pub line-long : {l m b b₁ b₂ : List ℕ} {n i r : ℕ} → PutsField l b 0 b₁ n → PutsField m (set b₁ n tab) i b₂ r → length b₂ ≡ length b
+pub line-long : {F : List ℕ → List ℕ → Type 0} {l m b b₁ b₂ : List ℕ} {n i r : ℕ} → PutsField F l b 0 b₁ n → PutsField F m (set b₁ n tab) i b₂ r → length b₂ ≡ length b
 line-long {b₁ = b₁} {n = n} p q = q .long ∙ length-set b₁ n tab ∙ p .long
 
 module _ (s : List ℕ) (c e : ℕ) (h : c < e) (i : e ≤ length s) where
@@ -211,17 +232,48 @@ module _ (s : List ℕ) (c e : ℕ) (h : c < e) (i : e ≤ length s) where
       back = sym (take-at m (drop e s) (e - (c + 1)) (omega (arith, long)))
           ∙ ap (take (e - (c + 1))) (sym (drop-at (l ++ (comma ∷ [])) (m ++ drop e s) (c + 1) (omega (arith, length-append l (comma ∷ [])))) ∙ ap (drop (c + 1)) (sym whole))
 
-  pub back-room : {b b₁ : List ℕ} {n : ℕ} → e ≤ length b → PutsField (take c s) b 0 b₁ n → n + 1 + length (take (e - (c + 1)) (drop (c + 1) s)) ≤ length (set b₁ n tab)
+  pub back-room : {F : List ℕ → List ℕ → Type 0} {b b₁ : List ℕ} {n : ℕ} → e ≤ length b → PutsField F (take c s) b 0 b₁ n → n + 1 + length (take (e - (c + 1)) (drop (c + 1) s)) ≤ length (set b₁ n tab)
   back-room {b₁ = b₁} {n} k p = omega (arith, p .most, p .long, length-take c s, length-take (e - (c + 1)) (drop (c + 1) s), length-set b₁ n tab)
 
-  pub puts-line : {b b₁ b₂ : List ℕ} {n r : ℕ} → e ≤ length b → PutsField (take c s) b 0 b₁ n → PutsField (take (e - (c + 1)) (drop (c + 1) s)) (set b₁ n tab) (n + 1) b₂ r → PutsLine s c e b b₂ r
-  puts-line {b} {b₁} {b₂} {n} {r} k p q l m f g x y d z =
+  pub puts-line : {F : List ℕ → List ℕ → Type 0} {b b₁ b₂ : List ℕ} {n r : ℕ} → e ≤ length b → PutsField F (take c s) b 0 b₁ n → PutsField F (take (e - (c + 1)) (drop (c + 1) s)) (set b₁ n tab) (n + 1) b₂ r → PutsLine F s c e b b₂ r
+  puts-line {F} {b} {b₁} {b₂} {n} {r} k p q l m f g x y d z =
       let (u, v) = parts d z in
-      let a = p .puts f (subst (λ (o : List ℕ). Field o f) u x) in
-      let o = q .puts g (subst (λ (w : List ℕ). Field w g) v y) in
+      let a = p .puts f (subst (λ (o : List ℕ). F o f) u x) in
+      let o = q .puts g (subst (λ (w : List ℕ). F w g) v y) in
       let j : n < length b₁ = omega (arith, p .most, p .long, length-take c s) in
       let t : PutText b₁ n (tab ∷ []) (set b₁ n tab) (n + 1) = record { is = put-byte b₁ n tab j; offset = refl } in
       let w : length g ≤ e - (c + 1) = omega (arith, o .offset, q .most, length-take (e - (c + 1)) (drop (c + 1) s)) in
       let z₁ = put-on a (tab ∷ []) (omega (arith, a .offset, p .most, length-take c s)) t in
       let z₂ = put-on z₁ g (omega (arith, a .offset, p .most, length-take c s, length-append f (tab ∷ []), w)) o in
       subst (λ (i : List ℕ). PutText b 0 i b₂ r) (append-assoc f (tab ∷ []) g) z₂
+
+-- ---- a usual field
+
+pub usual-short : {l b : List ℕ} {at : ℕ} {b′ : List ℕ} {r : ℕ} → at + length l ≤ length b → length l < 2 → PutText b at l b′ r → PutsField UsualField l b at b′ r
+usual-short {l} {b} {at} {b′} {r} h k p = record { puts = λ f q. go refl q; long = ap length (p .is) ∙ length-put b at l h; most = omega (arith, p .offset) }
+  where
+    go : {m f : List ℕ} → l ≡ m → UsualField m f → PutText b at f b′ r
+    go d (UsualField.plain q) = subst (λ (x : List ℕ). PutText b at x b′ r) d p
+    go d (UsualField.quoted {l = m} q) = absurd (omega (arith, ap length d, length-append m (quote ∷ [])))
+
+pub usual-plain : {l b : List ℕ} {at : ℕ} {b′ : List ℕ} {r : ℕ} → at + length l ≤ length b → (getD l 0 0 ≡ quote → ⊥) → PutText b at l b′ r → PutsField UsualField l b at b′ r
+usual-plain {l} {b} {at} {b′} {r} h n p = record { puts = λ f q. go refl q; long = ap length (p .is) ∙ length-put b at l h; most = omega (arith, p .offset) }
+  where
+    go : {m f : List ℕ} → l ≡ m → UsualField m f → PutText b at f b′ r
+    go d (UsualField.plain q) = subst (λ (x : List ℕ). PutText b at x b′ r) d p
+    go d (UsualField.quoted q) = absurd (n (ap (λ (x : List ℕ). getD x 0 0) d))
+
+-- without its first byte and its last
+pub usual-quoted : {l b : List ℕ} {at : ℕ} {b′ : List ℕ} {r : ℕ} → at + length l ≤ length b → 2 ≤ length l → getD l 0 0 ≡ quote → PutText b at (take (length l - 1 - 1) (drop 1 l)) b′ r → PutsField UsualField l b at b′ r
+usual-quoted {l} {b} {at} {b′} {r} h k e p =
+    record {
+      puts = λ f q. go refl q;
+      long = ap length (p .is) ∙ length-put b at (take (length l - 1 - 1) (drop 1 l)) (omega (arith, length-take (length l - 1 - 1) (drop 1 l)));
+      most = omega (arith, p .offset, length-take (length l - 1 - 1) (drop 1 l));
+    }
+  where
+    go : {m f : List ℕ} → l ≡ m → UsualField m f → PutText b at f b′ r
+    go d (UsualField.plain NonEscaped.none) = absurd (omega (arith, ap length d))
+    go d (UsualField.plain (NonEscaped.more t q)) = absurd (no-quote (omega (arith, e, ap (λ (x : List ℕ). getD x 0 0) d)) (omega (arith, e, ap (λ (x : List ℕ). getD x 0 0) d)) t)
+    go d (UsualField.quoted {l = m} q) =
+        subst (λ (x : List ℕ). PutText b at x b′ r) (ap (λ (x : List ℕ). take (length x - 1 - 1) (drop 1 x)) d ∙ take-at m (quote ∷ []) (length (quote ∷ (m ++ (quote ∷ []))) - 1 - 1) (omega (arith, length-append m (quote ∷ [])))) p

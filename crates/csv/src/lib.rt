@@ -4,12 +4,13 @@
 mod unquote;
 
 ghost use mathlib.Core.Path.{_≡_};
-ghost use Prim.Native.Nat.{_≤_, _<_};
+ghost use Prim.Native.Nat.{_≤_, _<_, min};
 ghost use lib.ListN.{length, drop};
 ghost use Rattle.csv.specs.Grammar.{TextData};
 ghost use Rattle.csv.specs.Promise.{Scans};
-ghost use Rattle.csv.specs.Private.{Tells, Stands, Run, FieldEnd, NextIs, OtherAt, AfterReturn, OutsideAt, InsideAt, Finds, firstComma};
+ghost use Rattle.csv.specs.Private.{Tells, Stands, Run, FieldEnd, NextIs, OtherAt, AfterReturn, OutsideAt, InsideAt, Finds, firstComma, EndsUsual, QuoteAt, FindsUsual};
 use unquote::put_line;
+use unquote::put_usual_line;
 
 // The longest record that is read.
 pub const LONGEST_RECORD: usize = 512;
@@ -82,16 +83,23 @@ fn stands(b: u8, quoted: bool) -> bool
     false
 }
 
+fn shorter(a: usize, b: usize) -> usize
+    ensures { λ r. ⌜ r ≡ min a b ⌝ }
+{
+    if a < b {
+        return a;
+    }
+    b
+}
+
 // The offset after the bytes that go on in the field, from an offset on; no record goes on past its longest length.
 fn run_end(s: &[u8], from: usize, quoted: bool) -> usize
     requires { ⌜ from ≤ length (now s) ⌝ }
     ensures { λ r. ⌜ Run quoted (now (s .entry)) from r ⌝ }
 {
+    let limit = shorter(s.len(), LONGEST_RECORD);
     let mut i = from;
-    while i < s.len() {
-        if LONGEST_RECORD <= i {
-            return i;
-        }
+    while i < limit {
         if stands(s[i], quoted) {
             i += 1;
         } else {
@@ -263,10 +271,71 @@ fn inside_quotes(
     Found::Stops(35, end)
 }
 
+// ---- the usual record: two fields, each of text, or of text in quotes
+
+enum Usual {
+    // The comma between the fields, the offset after them, and that after the line end.
+    Pair(usize, usize, usize),
+    Other,
+}
+
+// Where a usual field ends, which begins at an offset; of any other quoted field nothing is taken.
+fn usual_end(s: &[u8], from: usize) -> usize
+    requires { ⌜ from ≤ length (now s) ⌝ }
+    ensures { λ r. ⌜ EndsUsual (now (s .entry)) from r ⌝ }
+{
+    if from == s.len() {
+        return from;
+    }
+    if s[from] == b'"' {
+        return quoted_end(s, from);
+    }
+    run_end(s, from, false)
+}
+
+fn quoted_end(s: &[u8], from: usize) -> usize
+    requires { ⌜ QuoteAt (now s) from ⌝ }
+    ensures { λ r. ⌜ EndsUsual (now (s .entry)) from r ⌝ }
+{
+    let end = run_end(s, from + 1, false);
+    if end == s.len() {
+        return from;
+    }
+    if s[end] == b'"' {
+        return end + 1;
+    }
+    from
+}
+
+fn usual_pair(s: &[u8], ends: bool) -> Usual
+    ensures { λ r. ⌜ FindsUsual ends (now (s .entry)) r ⌝ }
+{
+    let comma = usual_end(s, 0);
+    if comma == s.len() {
+        return Usual::Other;
+    }
+    if s[comma] == b',' {
+        let end = usual_end(s, comma + 1);
+        if LONGEST_RECORD < end {
+            return Usual::Other;
+        }
+        if let Next::Ends(next) = next_outside(s, ends, end) {
+            return Usual::Pair(comma, end, next);
+        }
+    }
+    Usual::Other
+}
+
+// ---- any record
+
 // The record at the front of the bytes. A line buffer gets its line, where it has two fields.
 pub fn read_record(s: &[u8], ends: bool, line: &mut [u8; LONGEST_RECORD]) -> Scan
     ensures { λ r. ⌜ Scans ends (now (s .entry)) (now (line .entry)) (now (line .exit)) r ⌝ }
 {
+    if let Usual::Pair(comma, end, next) = usual_pair(s, ends) {
+        let size = put_usual_line(s, comma, end, line);
+        return Scan::Entry(size, next);
+    }
     match outside_quotes(s, ends, 0, false, 0, 0, 0) {
         Found::Pair(comma, end, next) => {
             let size = put_line(s, comma, end, line);

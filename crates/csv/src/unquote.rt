@@ -3,7 +3,8 @@
 ghost use mathlib.Core.Path.{_≡_};
 ghost use Prim.Native.Nat.{_+_, _≤_, _<_};
 ghost use lib.ListN.{length};
-ghost use Rattle.csv.specs.Private.{bytesOf, PutsField, PutsQuoted, PutsLine};
+ghost use Rattle.csv.specs.Grammar.{Field};
+ghost use Rattle.csv.specs.Private.{bytesOf, UsualField, PutsField, PutsQuoted, PutsLine};
 ghost use Rattle.writer.specs.Laws.{PutText};
 use writer::buffer;
 use writer::buffer::Copied;
@@ -46,7 +47,7 @@ fn put_plain(field: &[u8], line: &mut [u8], at: usize) -> usize
 
 fn put_field(field: &[u8], line: &mut [u8], at: usize) -> usize
     requires { ⌜ at + length (now field) ≤ length (now line) ⌝ }
-    ensures { λ r. ⌜ PutsField (now (field .entry)) (now (line .entry)) at (now (line .exit)) r ⌝ }
+    ensures { λ r. ⌜ PutsField Field (now (field .entry)) (now (line .entry)) at (now (line .exit)) r ⌝ }
 {
     if field.len() == 0 {
         return at;
@@ -60,9 +61,33 @@ fn put_field(field: &[u8], line: &mut [u8], at: usize) -> usize
 // The two fields of the record in the first bytes of s, which end at `end`, with a comma between them.
 pub fn put_line(s: &[u8], comma: usize, end: usize, line: &mut [u8]) -> usize
     requires { ⌜ (comma < end) × (end ≤ length (now s)) × (end ≤ length (now line)) ⌝ }
-    ensures { λ r. ⌜ PutsLine (now (s .entry)) comma end (now (line .entry)) (now (line .exit)) r ⌝ }
+    ensures { λ r. ⌜ PutsLine Field (now (s .entry)) comma end (now (line .entry)) (now (line .exit)) r ⌝ }
 {
     let n = put_field(&s[..comma], line, 0);
     line[n] = b'\t';
     put_field(&s[comma + 1..end], line, n + 1)
+}
+
+// ---- usual fields, in which no quote is doubled
+
+fn put_usual(field: &[u8], line: &mut [u8], at: usize) -> usize
+    requires { ⌜ at + length (now field) ≤ length (now line) ⌝ }
+    ensures { λ r. ⌜ PutsField UsualField (now (field .entry)) (now (line .entry)) at (now (line .exit)) r ⌝ }
+{
+    if field.len() < 2 {
+        return put_plain(field, line, at);
+    }
+    if field[0] == b'"' {
+        return put_plain(&field[1..field.len() - 1], line, at);
+    }
+    put_plain(field, line, at)
+}
+
+pub fn put_usual_line(s: &[u8], comma: usize, end: usize, line: &mut [u8]) -> usize
+    requires { ⌜ (comma < end) × (end ≤ length (now s)) × (end ≤ length (now line)) ⌝ }
+    ensures { λ r. ⌜ PutsLine UsualField (now (s .entry)) comma end (now (line .entry)) (now (line .exit)) r ⌝ }
+{
+    let n = put_usual(&s[..comma], line, 0);
+    line[n] = b'\t';
+    put_usual(&s[comma + 1..end], line, n + 1)
 }

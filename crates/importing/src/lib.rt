@@ -99,7 +99,12 @@ fn take_record(
             Taken::Written(at + next, end)
         }
         Scan::Stops(number, place) => {
-            let end = put_fault(number, later_place(later_place(offset, at), place), out, used);
+            let end = put_fault(
+                number,
+                later_place(later_place(offset, at), place),
+                out,
+                used,
+            );
             Taken::Ended(end)
         }
         Scan::Undecided => Taken::Cut,

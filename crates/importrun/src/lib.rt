@@ -136,7 +136,10 @@ fn advance(
                 return run_with(filter::state_with(Phase::Closing, p.used), offset);
             }
             let held = keep(block, p.at, shorter(count, BLOCK_SIZE));
-            run_with(state_at(Phase::Reading, 0, 0, held, p.used), later_place(offset, p.at))
+            run_with(
+                state_at(Phase::Reading, 0, 0, held, p.used),
+                later_place(offset, p.at),
+            )
         }
     }
 }
