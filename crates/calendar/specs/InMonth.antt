@@ -116,7 +116,7 @@ Movable l d = OneOn l (d .ordinal) × OneOn l (d .day) × OneOn l (d .«day_ordi
 module _ (d : Date) {r : ℕ} (y : ℕ) (runs : Runs (definitionOf (d .calendar)) r) (h : BiasedYear (biasedYear y)) (e : year (biasedYear y) ≡ d .year) where
   -- the label is nowhere
   pub none-genuine : {t : ℕ} {b : Bool} → Wholly r (biasedYear y) t b → OrdinalOf b (d .month) (d .day) DayOrdinal′.Nothing → ¬ Genuine d
-  none-genuine w n g = let (i, j) = wholly-none y w (ordinal-none n) in on-none runs (biasedYear y) (d .month) (d .day) e h i j .0 (d .jdn, g .is-record .label-is)
+  none-genuine w n g = let (i, j, o) = wholly-none y w (ordinal-none n) in on-none runs (biasedYear y) (d .month) (d .day) e h i j o .0 (d .jdn, g .is-record .label-is)
 
   -- or it has an ordinal
   module _ {t o : ℕ} {b : Bool} (w : Wholly r (biasedYear y) t b) (p : OrdinalOf b (d .month) (d .day) (DayOrdinal′.At o)) where

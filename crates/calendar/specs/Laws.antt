@@ -24,7 +24,7 @@ use Rattle.days.specs.ClosedNumbers.{daysBefore, few-before, ThereIn}
 use Rattle.days.specs.ReformationRules.{all-three}
 use Rattle.days.specs.ReformationTable.{accepts-only, fits-biased, there-too}
 use Rattle.days.specs.AcceptedCalendars.{labels-proper, skipped-nowhere}
-use Rattle.days.specs.ClosedRuns.{Runs, reforming-runs, top, firstDay, first-cases, first-julian, first-reform, yearFirst, monthFirst, julianMonth, gregorianMonth, year-plain, month-plain, year-stretch, ordinal-at, day-ordinal-at, on-old, on-new, in-gap, on-none}
+use Rattle.days.specs.ClosedRuns.{Runs, reforming-runs, top, firstDay, first-cases, first-julian, first-reform, yearFirst, monthFirst, julianMonth, gregorianMonth, year-plain, month-plain, year-stretch, ordinal-at, day-ordinal-at, on-old, on-new, day-before, month-over, in-gap, on-none}
 use Rattle.inner.specs.Natural.{biasedDay, biasedYear, Lowers, within, beyond}
 use Rattle.monthdays.specs.Promise.{MonthDayAt, OrdinalOf}
 use Rattle.inner.specs.Laws.{biased-day, julian-alone, gregorian-alone, spot-of-year}
@@ -34,7 +34,7 @@ use Rattle.inner.specs.declared.DayNumber.the-variants as DayNumber′
 use Rattle.monthdays.specs.declared.DayOrdinal.the-variants as DayOrdinal′
 use Rattle.fields.specs.declared.Fields.{Fields}
 use Rattle.fields.specs.Promise.{IsSame}
-use Rattle.switches.specs.Promise.{Judges, accepts-biased, refuses-with-1, refuses-with-2, YearSpan, NoneBelow, Finds, finds-old, finds-new, finds-gap, finds-none}
+use Rattle.switches.specs.Promise.{Judges, accepts-biased, refuses-with-1, refuses-with-2, YearSpan, NoneBelow, Finds, finds-old, finds-new, finds-gap, finds-none, RefusesNonGregorian, taken-away, never-there}
 use Rattle.switches.specs.JudgingLaws.{refused-not}
 use Rattle.switches.specs.declared.reformation.Judgement.the-variants as Judgement′
 use Rattle.calendar.specs.declared.Calendar.{Calendar}
@@ -50,7 +50,7 @@ use Rattle.calendar.specs.declared.record.Read.the-variants as Read′
 use Rattle.inner.specs.declared.Spot as S
 use Rattle.inner.specs.Spots.{At, spot, at-number, at-from, at-few}
 use Rattle.switches.specs.declared.Found.the-variants as Found′
-use Rattle.switches.specs.Laws.{starts-close, Wholly, wholly-old, wholly-new, wholly-none, wholly-days, ordinal-sum, read-at}
+use Rattle.switches.specs.Laws.{starts-close, julian-none, Wholly, wholly-old, wholly-new, wholly-none, wholly-days, ordinal-sum, read-at}
 use Rattle.refusals.specs.declared.Refusal.{Refusal}
 use Rattle.ways.specs.declared.Neighbour.the-variants as Neighbour′
 use Rattle.ways.specs.Promise.{IsNeighbour, there, nowhere}
@@ -200,11 +200,11 @@ module _ (c : Calendar) {r : ℕ} (runs : Runs (definitionOf c) r) {y m d : ℕ}
 
   pub refused-row : {A : Type 0} (refused : Refusal → A) {Below : A → Type 0} {f : Refusal} → Finds r y m d (Found′.Refused f) → OfALabel c z m d refused Below (refused f)
   refused-row refused (finds-gap t u v) = let s = in-gap runs (biasedYear y) m d e h t u v in passes (λ n. n .1 s) (refuses s)
-  refused-row refused (finds-none n l) = refuses (on-none runs (biasedYear y) m d e h n l)
+  refused-row refused (finds-none n l o) = refuses (on-none runs (biasedYear y) m d e h n l o)
 
   pub refused-nowhere : {f : Refusal} → Finds r y m d (Found′.Refused f) → ¬ Borne (labels c) (label z m d)
   refused-nowhere (finds-gap t u v) = skipped-nowhere (runs .accepted) (in-gap runs (biasedYear y) m d e h t u v)
-  refused-nowhere (finds-none n l) = on-none runs (biasedYear y) m d e h n l .0
+  refused-nowhere (finds-none n l o) = on-none runs (biasedYear y) m d e h n l o .0
 
 -- ---- A day that is found, in 32 bits
 pub given-biased : (c : Calendar) {k : ℕ} {n z : ℤ} {d : Date} → Lowers k (DayNumber′.Day n) → IsRecord c n d → Given c z (day k) (Dated′.Date d)
@@ -509,19 +509,16 @@ module _ {r m d t : ℕ} {b : Bool} (y : ℕ) (h : BiasedYear (biasedYear y)) wh
       let (l, p) = in-new (subst (λ (k : ℕ). r ≤ k) f g) (read-at G.leapAt G.start y m d h e f v q) in
       (plain-stands w (spot (t + o - 1) y o m d) l p, refl, refl)
 
-  -- a label that a year has not which is wholly in one reckoning
-  pub old-none : b ≡ J.leapAt (biasedYear y) → t ≡ J.start (biasedYear y) → ReadsLabel b t y m d Read′.Nothing → t + 366 < r → Finds r y m d (Found′.Refused (refusal 4 (pos d)))
-  old-none e f (reads-none n) g = let (i, j) = wholly-none y (wholly-old (subst (λ (k : ℕ). k + 366 < r) f g)) (subst (λ (b : Bool). ¬ ThereIn b m d) e n) in finds-none i j
+  -- a label that the Julian calendar has not, and one that a year has not which begins from the switch on
+  pub old-none : b ≡ J.leapAt (biasedYear y) → ReadsLabel b t y m d Read′.Nothing → Finds r y m d (Found′.Refused (refusal 4 (pos d)))
+  old-none e (reads-none n) = julian-none y (subst (λ (b : Bool). ¬ ThereIn b m d) e n)
 
   pub new-none : b ≡ G.leapAt (biasedYear y) → t ≡ G.start (biasedYear y) → ReadsLabel b t y m d Read′.Nothing → {u : ℕ} → u ≡ J.start (biasedYear y) → r ≤ u → r ≤ t → Finds r y m d (Found′.Refused (refusal 4 (pos d)))
   new-none e f (reads-none n) k i g =
-      let (i, j) = wholly-none y (wholly-new (subst (λ (k : ℕ). r ≤ k) k i) (subst (λ (k : ℕ). r ≤ k) f g)) (subst (λ (b : Bool). ¬ ThereIn b m d) e n) in
-      finds-none i j
+      let (i, j, o) = wholly-none y (wholly-new (subst (λ (k : ℕ). r ≤ k) k i) (subst (λ (k : ℕ). r ≤ k) f g)) (subst (λ (b : Bool). ¬ ThereIn b m d) e n) in
+      finds-none i j o
 
   -- one that is looked for from the switch on
-  pub later-none : b ≡ J.leapAt (biasedYear y) → t ≡ J.start (biasedYear y) → t < r → ReadsLabel b t y m d Read′.Nothing → LaterLabel r y m d
-  later-none e f g (reads-none n) = (λ i. absurd (n (i .0, i .1, i .2, subst (λ (b : Bool). d ≤ monthLength b m) (sym e) (i .3))), begun y f g)
-
   pub later-late : {s : S.Spot} → b ≡ J.leapAt (biasedYear y) → t ≡ J.start (biasedYear y) → t < r → ReadsLabel b t y m d (Read′.At s) → r ≤ s .biased → LaterLabel r y m d
   later-late e f g (reads-at v q) i = (λ j. subst (λ (n : ℕ). r ≤ n) (sym (at-number (read-at J.leapAt J.start y m d h e f v q))) i, begun y f g)
 
@@ -538,8 +535,8 @@ module _ {r m d : ℕ} (y : ℕ) (l : LaterLabel r y m d) where
     where
       large : (i j : ℕ) → 1 ≤ i → pair i j < 4_294_967_296 → ⊥
       large i j u h = omega arith
-  later-refused (turns-gap t u) h = finds-gap t (l .0 (there-too (biasedYear y) m d t)) u
-  later-refused (turns-none n) h = finds-none n (l .0)
+  later-refused (turns-gap t u) h = finds-gap t (l .0 t) u
+  later-refused (turns-none n o) h = finds-none n (l .0) o
 
   pub later-at : {t w : ℕ} → TurnsLabel r y m d t → 4_294_967_296 ≤ t → w ≡ yearFirst r (biasedYear y)
       → LabelAt r y m d (record { past = w + t / 4_294_967_296; ordinal = t / 4_294_967_296; month = m; day = d; «day_ordinal» = t % 4_294_967_296 })
@@ -562,7 +559,7 @@ module _ {r m d : ℕ} (y : ℕ) (l : LaterLabel r y m d) where
     where
       small : 4_294_967_296 ≤ 5 → ⊥
       small h = omega arith
-  later-at (turns-none n) h q = absurd (small h)
+  later-at (turns-none n o) h q = absurd (small h)
     where
       small : 4_294_967_296 ≤ 4 → ⊥
       small h = omega arith
@@ -709,11 +706,14 @@ module _ {r y m d t : ℕ} {b : Bool} (h : BiasedYear (biasedYear y)) (e : b ≡
       let a = read-at G.leapAt G.start y m d h e f v q in
       first-cases r j t (λ u z. omega (arith, k, z, i, f, a .adds, at-few a, at-from a, year-close a)) (λ u x z. omega (arith, k, z, i, f, a .adds, at-few a, at-from a)) (λ u x z. omega (arith, k, z, i, f, a .adds, at-few a, at-from a))
 
-  pub turned-none : ReadsLabel b t y m d Read′.Nothing → TurnsLabel r y m d 4
-  turned-none (reads-none n) = turns-none (λ v. n (subst (λ (b : Bool). ThereIn b m d) (sym e) v))
+  pub turned-none : {k : ℕ} → ReadsLabel b t y m d Read′.Nothing → RefusesNonGregorian r y m d k → TurnsLabel r y m d k
+  turned-none (reads-none n) (taken-away v g) = turns-gap v (month-over g)
+  turned-none (reads-none n) (never-there g) = turns-none (λ v. n (subst (λ (b : Bool). ThereIn b m d) (sym e) v)) g
 
   pub turned-gap : {s : S.Spot} → ReadsLabel b t y m d (Read′.At s) → s .biased < r → TurnsLabel r y m d 5
-  turned-gap (reads-at v q) g = let a = read-at G.leapAt G.start y m d h e f v q in turns-gap (a .there) (subst (λ (n : ℕ). n < r) (sym (at-number a)) g)
+  turned-gap (reads-at v q) g =
+      let a = read-at G.leapAt G.start y m d h e f v q in
+      turns-gap (there-too (biasedYear y) m d (a .there)) (day-before (a .there) (subst (λ (n : ℕ). n < r) (sym (at-number a)) g))
 
   pub turned-at : {s : S.Spot} {j w n : ℕ} → ReadsLabel b t y m d (Read′.At s) → r ≤ s .biased → j ≡ J.start (biasedYear y) → w ≡ firstDay r j t → n < 4_294_967_296
       → s .biased + 1 - monthFirst r (biasedYear (s .year)) (s .month) ≡ n → TurnsLabel r y m d (pair (s .biased + 1 - w) n)

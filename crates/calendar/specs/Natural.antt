@@ -8,9 +8,9 @@ use Rattle.days.specs.DayByDay.{JulianStyle, style}
 use Rattle.days.specs.BiasedDays.{day, year}
 use Rattle.days.specs.ClosedJulian as J
 use Rattle.days.specs.ClosedGregorian as G
-use Rattle.days.specs.ClosedNumbers.{There, number, daysBefore, ThereIn}
+use Rattle.days.specs.ClosedNumbers.{There, daysBefore, ThereIn}
 use Rattle.days.specs.ClosedStarts as Starts
-use Rattle.days.specs.ClosedRuns.{Runs, top, yearFirst, monthFirst}
+use Rattle.days.specs.ClosedRuns.{Runs, top, ComesBefore, yearFirst, monthFirst}
 use Rattle.inner.specs.Natural.{biasedYear}
 use Rattle.monthdays.specs.Promise.{MonthDayAt}
 use Rattle.fields.specs.declared.Fields.{Fields}
@@ -32,7 +32,7 @@ use Rattle.calendar.specs.declared.ReformDate.the-variants as ReformDate
 use Rattle.calendar.specs.Calendars.{definitionOf, labels, Accepted, sameStyle}
 use Rattle.calendar.specs.Rows.{Unless}
 use Rattle.switches.specs.declared.Found.the-variants as Found′
-use Rattle.switches.specs.Promise.{NoneBelow, Finds}
+use Rattle.switches.specs.Promise.{NoneBelow, NotOver, Finds}
 use Rattle.calendar.specs.Promise.{refusal, made-up, ReformRecord}
 
 -- the calendar is Julian below the biased day r and Gregorian from it on; or it is made up
@@ -129,12 +129,12 @@ pub record LaterOrdinal (r y o : ℕ) : Type 0 where
 abbrev pub pair : ℕ → ℕ → ℕ
 pair a b = a * 4_294_967_296 + b
 
--- the places of a label in its year and its month; 5 where it is skipped, and 4 where it is nowhere
+-- the places of a label that no Julian day before r bears, in its year and its month; 5 where it is skipped, and 4 where it is nowhere
 pub data TurnsLabel (r y m d : ℕ) : ℕ → Type 0 where
   turns-at : {k o i j : ℕ} → r ≤ k → At G.leapAt G.start k (biasedYear y) m d o → 1 ≤ i → j < 4_294_967_296
       → k + 1 - yearFirst r (biasedYear y) ≡ i → k + 1 - monthFirst r (biasedYear y) m ≡ j → TurnsLabel r y m d (pair i j)
-  turns-gap : There G.leapAt (biasedYear y) m d → number G.leapAt G.start (biasedYear y) m d < r → TurnsLabel r y m d 5
-  turns-none : ¬ There G.leapAt (biasedYear y) m d → TurnsLabel r y m d 4
+  turns-gap : There J.leapAt (biasedYear y) m d → ComesBefore r (biasedYear y) m d → TurnsLabel r y m d 5
+  turns-none : ¬ There G.leapAt (biasedYear y) m d → NotOver r y m d → TurnsLabel r y m d 4
 
 -- the month and the day of a place in the year, and its place in the month
 pub data TurnsOrdinal (r y o : ℕ) : ℕ → Type 0 where

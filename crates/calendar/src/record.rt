@@ -237,7 +237,7 @@ enum Early {
     Later,
 }
 
-// A Julian day before the switch, and a day of a year that is wholly in one reckoning.
+// A Julian day before the switch, a day of a year that begins from the switch on, and what the Julian calendar does not have.
 fn plain_label(switch: u64, year: u32, month: u32, day: u32) -> Early
     requires { ⌜ SomeSwitch switch ⌝ }
     ensures { λ e. ⌜ PlacesEarly switch year month day e ⌝ }
@@ -245,12 +245,7 @@ fn plain_label(switch: u64, year: u32, month: u32, day: u32) -> Early
     let old = inner::julian_start(year);
     if old < switch {
         return match reading(inner::is_julian_leap(year), old, year, month, day) {
-            Read::Nothing => {
-                if old + 366 < switch {
-                    return Early::Refused(refusals::refusal_with(4, day));
-                }
-                Early::Later
-            }
+            Read::Nothing => Early::Refused(refusals::refusal_with(4, day)),
             Read::At(s) => {
                 if s.biased < switch {
                     return Early::At(plain_place(s));
@@ -367,7 +362,7 @@ fn turned_label(switch: u64, year: u32, month: u32, day: u32) -> u64
 {
     let start = inner::gregorian_start(year);
     match reading(inner::is_gregorian_leap(year), start, year, month, day) {
-        Read::Nothing => 4,
+        Read::Nothing => switches::non_gregorian_refusal(switch, year, month, day) as u64,
         Read::At(s) => {
             if s.biased < switch {
                 return 5;

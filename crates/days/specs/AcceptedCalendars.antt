@@ -36,7 +36,7 @@ reforming-labels r n = ⊎-elim
     (lt-or-ge n r)
 
 -- ---- They rise
-no-switch : {d : ℤ} → SwitchDay [] d → ⊥
+pub no-switch : {d : ℤ} → SwitchDay [] d → ⊥
 no-switch s = elim s [ ]
 
 -- a reforming calendar does if its first Gregorian label is later than the Julian label of the same day

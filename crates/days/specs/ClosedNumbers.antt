@@ -86,7 +86,7 @@ module _ {c : Reckoning} {leapAt : ℕ → Bool} {start : ℕ → ℕ} (s : Star
       one a = omega arith
 
 -- and of the next month
-next-is : (leap : LeapRule) (y : ℤ) (m d : ℕ) → monthLength (leap y) m ≤ d → nextLabel leap (label y m d) ≡ nextMonth y m
+pub next-is : (leap : LeapRule) (y : ℤ) (m d : ℕ) → monthLength (leap y) m ≤ d → nextLabel leap (label y m d) ≡ nextMonth y m
 next-is leap y m d h = ⊎-elim
     (λ k. next-month leap (label y m d) h k ∙ ap (λ (t : Bool). cond t (label y (suc m) 1) (label (sucℤ y) 1 1)) (sym (lt-ltb m 12 k)))
     (λ k. next-year leap (label y m d) h k ∙ ap (λ (t : Bool). cond t (label y (suc m) 1) (label (sucℤ y) 1 1)) (sym (le-ltb m 12 k)))

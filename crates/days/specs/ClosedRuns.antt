@@ -4,7 +4,7 @@
 -- Assumes nothing.
 use mathlib.Core.Path.{_≡_, refl, sym, _∙_, ap, subst, subst₂}
 use mathlib.Core.Bool.{Bool, cond}
-use mathlib.Core.Logic.{⊎-elim}
+use mathlib.Core.Logic.{inl, ⊎-elim}
 use Prim.Native.Nat.{ℕ, _+_, _-_, _/_, _<_, _≤_}
 use native.Mathlib.Omega.{arith}
 use native.Mathlib.Numerals.{add-one}
@@ -16,8 +16,9 @@ use lib.Signed.{_<ℤ_, _≤ℤ_}
 use Rattle.whole.specs.Tests as N
 use Rattle.whole.specs.Biased.{unbias-suc, unbias-back, unbias-injective}
 use Rattle.whole.specs.Integers.{lt-or-ge, unbias-up, unbias-down, unbias-le}
-use Rattle.days.specs.DayByDay.{Label, label, Reckoning, labelOf, julian, gregorian, monthLength, _≺_, Calendar, Julian, Gregorian, Reforming, labels, JulianStyle, GregorianStyle, style, Rises, Borne, OfYear, OfMonth, Place, Ordinal, DayOrdinal, Accepted, julian-accepted, gregorian-accepted, reforming-accepted, AcceptedReformation, SwitchDay, this, Skipped, timeline}
-use Rattle.days.specs.RisingLabels.{up-back, once}
+use Rattle.days.specs.DayByDay.{Label, label, Reckoning, labelOf, julian, gregorian, monthLength, _≺_, by-day, Calendar, Julian, Gregorian, Reforming, labels, JulianStyle, GregorianStyle, style, Rises, Borne, OfYear, OfMonth, Place, Ordinal, DayOrdinal, Accepted, julian-accepted, gregorian-accepted, reforming-accepted, AcceptedReformation, SwitchDay, this, later, Skipped, timeline}
+use Rattle.days.specs.LabelOrder.{≺-irrefl, ≺-trans}
+use Rattle.days.specs.RisingLabels.{up-back, no-earlier, once}
 use Rattle.days.specs.RisingSpans.{Span, First, first-by, Stretch, stretch, year-span, month-span, nextMonth}
 use Rattle.days.specs.ReckoningSteps.{month-some}
 use Rattle.days.specs.BiasedDays.{dayBias, yearBias, day, year, BiasedYear}
@@ -28,8 +29,8 @@ use Rattle.days.specs.ClosedGregorian as G
 use Rattle.days.specs.ClosedNumbers.{There, number, numbered, there, daysBefore, within-year, month-first, month-past}
 use Rattle.days.specs.ReckoningLabels.{julian-rises, gregorian-rises}
 use Rattle.days.specs.RisingTimelines.{either-reckoning}
-use Rattle.days.specs.AcceptedCalendars.{reforming-below, reforming-from, accepted-rises, labels-proper}
-use Rattle.days.specs.ReformationTable.{there-too, fits-only}
+use Rattle.days.specs.AcceptedCalendars.{reforming-below, reforming-from, accepted-rises, labels-proper, no-switch}
+use Rattle.days.specs.ReformationTable.{fits-only}
 
 -- no day that is looked at is biased as more
 abbrev pub top : ℕ
@@ -40,6 +41,7 @@ pub record Runs (c : Calendar) (r : ℕ) : Type 0 where
   pub below : (k : ℕ) → k < r → k < top → (labels c (day k) ≡ labelOf julian (day k)) × (style c (day k) ≡ JulianStyle)
   pub above : (k : ℕ) → r ≤ k → k < top → (labels c (day k) ≡ labelOf gregorian (day k)) × (style c (day k) ≡ GregorianStyle)
   pub switches : 1 ≤ r → r < top → SwitchDay (timeline c .switches) (day r)
+  pub no-other : (d : ℤ) → SwitchDay (timeline c .switches) d → d ≡ day r
   -- the r of a calendar that is never Gregorian is top itself, and nothing above it
   pub most : r ≤ top
 
@@ -53,6 +55,7 @@ julian-runs = record {
   below = λ k h t. (refl, refl);
   above = λ k h t. absurd (never-below k top h t);
   switches = λ h t. absurd (never-below top top (omega arith) t);
+  no-other = λ d s. absurd (no-switch s);
   most = le-refl top;
 }
 
@@ -62,6 +65,7 @@ gregorian-runs = record {
   below = λ k h t. absurd (never-below k 0 (omega arith) h);
   above = λ k h t. (refl, refl);
   switches = λ h t. absurd (never-below 0 1 h (omega arith));
+  no-other = λ d s. absurd (no-switch s);
   most = omega arith;
 }
 
@@ -71,8 +75,13 @@ reforming-runs r a = record {
   below = λ k h t. reforming-below (day r) (unbias-up dayBias h);
   above = λ k h t. reforming-from (day r) (unbias-le dayBias r k h);
   switches = λ h t. this;
+  no-other = only;
   most = omega (arith, fits-only r (a .julian-day-fits));
 }
+  where
+    only : (d : ℤ) → SwitchDay (timeline (Reforming (day r)) .switches) d → d ≡ day r
+    only d this = refl
+    only d (later s) = absurd (no-switch s)
 
 -- ---- a calendar has one r
 
@@ -92,6 +101,52 @@ before-one r n h k = omega arith
 
 above-some : {g r : ℕ} → g < r → 1 ≤ r
 above-some h = omega arith
+
+-- ---- months
+
+-- the first day of a month in the two calendars, and the first day past it in the Gregorian one
+abbrev pub julianMonth : ℕ → ℕ → ℕ
+julianMonth y m = J.start y + daysBefore (J.leapAt y) m
+
+abbrev pub gregorianMonth : ℕ → ℕ → ℕ
+gregorianMonth y m = G.start y + daysBefore (G.leapAt y) m
+
+abbrev pub gregorianPast : ℕ → ℕ → ℕ
+gregorianPast y m = gregorianMonth y m + monthLength (G.leapAt y) m
+
+-- in the Gregorian calendar a label comes before the one of day r: its own day comes before r, or its month is over by r
+pub data ComesBefore (r y m d : ℕ) : Type 0 where
+  day-before : There G.leapAt y m d → number G.leapAt G.start y m d < r → ComesBefore r y m d
+  month-over : gregorianPast y m ≤ r → ComesBefore r y m d
+
+before-some : {r y m d : ℕ} → There J.leapAt y m d → ComesBefore r y m d → 1 ≤ r
+before-some t (day-before u h) = above-some h
+before-some {r} {y} {m} t (month-over h) = some (gregorianMonth y m) (month-some (G.leapAt y) m (t .0) (t .1)) h
+  where
+    some : (a : ℕ) {n : ℕ} → 1 ≤ n → a + n ≤ r → 1 ≤ r
+    some a g h = omega arith
+
+-- the last day of a month that is not over by r is not before r, and so its label is not before that of r: a later label of the month, which the
+-- Julian calendar alone has, does not come before it either
+module _ (r y m : ℕ) where
+  last-from : r < gregorianPast y m → r ≤ number G.leapAt G.start y m (monthLength (G.leapAt y) m)
+  last-from h = back (gregorianMonth y m) (monthLength (G.leapAt y) m) h
+    where
+      back : (a n : ℕ) → r < a + n → r ≤ a + n - 1
+      back a n h = omega arith
+
+  last-there : {d : ℕ} → There J.leapAt y m d → There G.leapAt y m (monthLength (G.leapAt y) m)
+  last-there (u, v, w, t) = (u, v, month-some (G.leapAt y) m u v, le-refl (monthLength (G.leapAt y) m))
+
+  month-top : BiasedYear y → {d : ℕ} → There J.leapAt y m d → r < gregorianPast y m → r < top
+  month-top within t h = omega (arith, last-from h, within-year G.leapAt G.start y m (monthLength (G.leapAt y) m) (last-there t), within .to)
+
+  not-before : (d : ℕ) {z : ℤ} → year y ≡ z → There J.leapAt y m d → ¬ There G.leapAt y m d → r < gregorianPast y m → ¬ (label z m d ≺ labelOf gregorian (day r))
+  not-before d {z} i t n h b = ≺-irrefl (≺-trans (no-earlier gregorian-rises (unbias-le dayBias r (number G.leapAt G.start y m (monthLength (G.leapAt y) m)) (last-from h)) b)
+      (subst (λ (x : Label). x ≺ label z m d) (sym (numbered G.starts y m (monthLength (G.leapAt y) m) (last-there t) ∙ ap (λ (z : ℤ). label z m (monthLength (G.leapAt y) m)) i)) (by-day refl refl longer)))
+    where
+      longer : monthLength (G.leapAt y) m < d
+      longer = ⊎-elim (λ k. k) (λ k. absurd (n (t .0, t .1, t .2, k))) (N.lt-or-ge (monthLength (G.leapAt y) m) d)
 
 -- ---- which day bears a label
 module _ {c : Calendar} {r : ℕ} (runs : Runs c r) where
@@ -149,38 +204,46 @@ module _ {c : Calendar} {r : ℕ} (runs : Runs c r) where
     not-new : ¬ There G.leapAt y m d → ¬ Borne (labelOf gregorian) l
     not-new n b = n (there G.starts y m d (b .0, b .1 ∙ sym (ap (λ (z : ℤ). label z m d) i)))
 
-    not-old : ¬ There J.leapAt y m d → ¬ Borne (labelOf julian) l
-    not-old n b = n (there J.starts y m d (b .0, b .1 ∙ sym (ap (λ (z : ℤ). label z m d) i)))
+    from-old : Borne (labelOf julian) l → There J.leapAt y m d
+    from-old b = there J.starts y m d (b .0, b .1 ∙ sym (ap (λ (z : ℤ). label z m d) i))
 
-    -- in both, but from r on in the Julian calendar and before r in the Gregorian one: skipped
-    pub in-gap : There G.leapAt y m d → r ≤ number J.leapAt J.start y m d → number G.leapAt G.start y m d < r → Skipped c l
-    in-gap t h g =
-        let u : There J.leapAt y m d = there-too y m d t in
+    comes-before : There J.leapAt y m d → ComesBefore r y m d → l ≺ labelOf gregorian (day r)
+    comes-before t (day-before u h) = subst (λ (x : Label). x ≺ labelOf gregorian (day r)) (in-new u) (gregorian-rises (day (number G.leapAt G.start y m d)) (day r) (unbias-up dayBias h))
+    comes-before (u, v, w, t) (month-over h) = no-earlier gregorian-rises (unbias-le dayBias (gregorianPast y m) r h)
+        (subst (λ (x : Label). l ≺ x) (sym (month-past G.starts y m u v ∙ ap (λ (z : ℤ). nextMonth z m) i)) (month-span z m v .inside l (u, v, w) (refl, refl) .1))
+
+    -- from r on in the Julian calendar, and before the label of r in the Gregorian one: skipped
+    pub in-gap : There J.leapAt y m d → r ≤ number J.leapAt J.start y m d → ComesBefore r y m d → Skipped c l
+    in-gap t h b =
         let j : ℕ = number J.leapAt J.start y m d in
-        let o : 1 ≤ r = above-some g in
-        let s : r < top = lt-of-le-of-lt h (old-top u) in
+        let o : 1 ≤ r = before-some t b in
+        let s : r < top = lt-of-le-of-lt h (old-top t) in
         let p : r - 1 < r = before-one r r o (le-refl r) in
         record {
           switch = day r;
           switches = runs .switches o s;
-          past-last = subst₂ (λ (n : ℤ) (x : Label). labels c n ≺ x) (sym (unbias-back dayBias r 1 o)) (in-old u)
+          past-last = subst₂ (λ (n : ℤ) (x : Label). labels c n ≺ x) (sym (unbias-back dayBias r 1 o)) (in-old t)
               (subst (λ (x : Label). x ≺ labelOf julian (day j)) (sym (runs .below (r - 1) p (before-one r top o (le-of-lt s)) .0))
               (julian-rises (day (r - 1)) (day j) (unbias-up dayBias (before-one r j o h))));
-          before-first = subst₂ _≺_ (in-new t) (sym (runs .above r (le-refl r) s .0)) (gregorian-rises (day (number G.leapAt G.start y m d)) (day r) (unbias-up dayBias g));
-          skippable = (day (number G.leapAt G.start y m d), in-new t);
+          before-first = subst (λ (x : Label). l ≺ x) (sym (runs .above r (le-refl r) s .0)) (comes-before t b);
+          skippable = inl (day j, in-old t);
         }
 
-    -- on no day of either, or on one of the Julian calendar from r on and none of the Gregorian: on no day, and not skipped
-    pub on-none : ¬ There G.leapAt y m d → (There J.leapAt y m d → r ≤ number J.leapAt J.start y m d) → (¬ Borne (labels c) l) × (¬ Skipped c l)
-    on-none n h = (
+    -- on no day of the Gregorian calendar, and on none of the Julian one, or on one from r on and in a month that is not over by r: on no day,
+    -- and not skipped
+    pub on-none : ¬ There G.leapAt y m d → (There J.leapAt y m d → r ≤ number J.leapAt J.start y m d) → (There J.leapAt y m d → r < gregorianPast y m) → (¬ Borne (labels c) l) × (¬ Skipped c l)
+    on-none n h g = (
       nowhere-by late (λ z e. absurd (not-new n (z, e))),
-      λ s. not-new n (s .skippable),
+      λ s. ⊎-elim (λ b. not-first (from-old b) s) (not-new n) (s .skippable),
     )
       where
         late : Late l
-        late z e =
-            let t : There J.leapAt y m d = there J.starts y m d (z, e ∙ sym (ap (λ (z : ℤ). label z m d) i)) in
-            (number J.leapAt J.start y m d, once julian-rises (e ∙ sym (in-old t)), h t, old-top t)
+        late z e = let t : There J.leapAt y m d = from-old (z, e) in (number J.leapAt J.start y m d, once julian-rises (e ∙ sym (in-old t)), h t, old-top t)
+
+        not-first : There J.leapAt y m d → ¬ Skipped c l
+        not-first t s =
+            let e : labels c (s .switch) ≡ labelOf gregorian (day r) = ap (labels c) (runs .no-other (s .switch) (s .switches)) ∙ runs .above r (le-refl r) (month-top r y m within t (g t)) .0 in
+            not-before r y m d i t n (g t) (subst (λ (x : Label). l ≺ x) e (s .before-first))
 
 -- ---- the first day of a year or a month
 
@@ -291,12 +354,6 @@ module _ {c : Reckoning} {leapAt : ℕ → Bool} {start : ℕ → ℕ} (s : Star
 -- the first day of a year, of a month, and past a month
 abbrev pub yearFirst : ℕ → ℕ → ℕ
 yearFirst r y = firstDay r (J.start y) (G.start y)
-
-abbrev pub julianMonth : ℕ → ℕ → ℕ
-julianMonth y m = J.start y + daysBefore (J.leapAt y) m
-
-abbrev pub gregorianMonth : ℕ → ℕ → ℕ
-gregorianMonth y m = G.start y + daysBefore (G.leapAt y) m
 
 abbrev pub monthFirst : ℕ → ℕ → ℕ → ℕ
 monthFirst r y m = firstDay r (julianMonth y m) (gregorianMonth y m)

@@ -3,6 +3,7 @@
 use mathlib.Core.Path.{_≡_}
 use mathlib.Core.Bool.{Bool, not, cond, _&&_}
 use mathlib.Core.List.{List, [], _∷_}
+use mathlib.Core.Logic.{_⊎_}
 use Prim.Native.Nat.{ℕ, zero, suc, _-_, _<_, _≤_, _%_}
 use lib.Dec.{ltb, eqb}
 use lib.IntN.{ℤ, pos, negsuc, sucℤ, predℤ, natAbs, _+ℤ_, _-ℤ_, _*ℤ_}
@@ -264,11 +265,12 @@ pub data SwitchDay : List Switch → ℤ → Type 0 where
   this : {s : Switch} {l : List Switch} → SwitchDay (s ∷ l) (s .on)
   later : {s : Switch} {l : List Switch} {d : ℤ} → SwitchDay l d → SwitchDay (s ∷ l) d
 
--- which labels count as skipped where they fall into a gap: those of the Gregorian calendar
+-- which labels count as skipped where they fall into a gap: those that are valid in the Julian or the Gregorian calendar
 abbrev pub Skippable : Label → Type 0
-Skippable = Borne (labelOf gregorian)
+Skippable l = Borne (labelOf julian) l ⊎ Borne (labelOf gregorian) l
 
--- a label is skipped: it lies between the last label before a switch and the first one after it, and is valid in the Gregorian calendar
+-- a label is skipped: it lies strictly between the last label before a switch and the first one after it, and is valid in the Julian or the
+-- Gregorian calendar
 pub record SkippedIn (t : Timeline) (l : Label) : Type 0 where
   pub switch : ℤ
   pub switches : SwitchDay (t .switches) switch

@@ -7,13 +7,13 @@ use lib.Dec.{T, leb, ltb}
 use lib.IntN.{ℤ, pos, negsuc}
 use mathlib.Core.Bool.{Bool, _&&_}
 use mir.Facts.{and-yes, leb-yes, ltb-yes}
-use Rattle.days.specs.DayByDay.{Label, label, monthLength, Calendar, Julian, Gregorian, Reforming, labels, OfYear, Place, Ordinal, DayOrdinal, YearLength, Missing, weekday, UnixTime}
+use Rattle.days.specs.DayByDay.{Label, label, monthLength, Calendar, Julian, Gregorian, Reforming, labels, OfYear, Place, Ordinal, DayOrdinal, YearLength, Skipped, Missing, weekday, UnixTime}
 use Rattle.days.specs.BiasedDays.{day, year, BiasedYear}
 use Rattle.days.specs.ClosedJulian as J
 use Rattle.days.specs.ClosedGregorian as G
 use Rattle.days.specs.ClosedNumbers.{There, number}
 use Rattle.days.specs.ReformationTable.{accepts}
-use Rattle.days.specs.ClosedRuns.{Runs, julian-runs, gregorian-runs, reforming-runs, on-old, on-new, on-none, ordinal-at, day-ordinal-at, year-stretch, yearFirst, monthFirst}
+use Rattle.days.specs.ClosedRuns.{Runs, julian-runs, gregorian-runs, reforming-runs, on-old, on-new, gregorianPast, month-over, in-gap, on-none, ordinal-at, day-ordinal-at, year-stretch, yearFirst, monthFirst}
 use Rattle.days.specs.ClosedWeekdays.{weekday-is}
 
 -- ---- The statement
@@ -43,7 +43,7 @@ pub record KnownDays : Type 0 where
   -- r = 1830692: 300-02-28, then 300-03-01 ordinal 60; 300-02-29 refused
   pub last-julian-300 : labels (Reforming (pos 1_830_692)) (pos 1_830_691) ≡ label (pos 300) 2 28
   pub first-gregorian-300 : Dated (Reforming (pos 1_830_692)) (pos 1_830_692) (pos 300) 3 1 60
-  pub missing-300 : Missing (Reforming (pos 1_830_692)) (label (pos 300) 2 29)
+  pub skipped-300 : Skipped (Reforming (pos 1_830_692)) (label (pos 300) 2 29)
   -- r = 2419403: 1911 has 352 days; 1912-01-01 ordinal 1
   pub length-1911 : YearLength (labels (Reforming (pos 2_419_403))) (pos 1911) 352
   pub first-gregorian-1912 : Dated (Reforming (pos 2_419_403)) (pos 2_419_403) (pos 1912) 1 1 1
@@ -56,6 +56,14 @@ pub record KnownDays : Type 0 where
   -- 2299161 is a Friday; t = -1 is day 2440587, 86399 s
   pub friday : weekday (pos 2_299_161) ≡ 5
   pub second-before-epoch : UnixTime (negsuc 0) (pos 2_440_587) 86_399
+
+-- labels in a gap, or beside one: 29 February of a year that is leap in the Julian calendar alone, in no calendar, and 30 February
+pub record KnownGaps : Type 0 where
+  -- r = 2342032: 1700-02-18, then 1700-03-01
+  pub skipped-1700 : Skipped (Reforming (pos 2_342_032)) (label (pos 1700) 2 29)
+  pub missing-1700 : Missing (Reforming (pos 2_342_032)) (label (pos 1700) 2 30)
+  -- r = 2361390: 1753-02-17, then 1753-03-01
+  pub missing-1753 : Missing (Reforming (pos 2_361_390)) (label (pos 1753) 2 29)
 
 -- three days that have names, by their Gregorian dates: the first of the reformed calendar, day 0 of Unix time, and the day before year 1
 pub record NamedDays (reform1582 unixEpoch rataDieZero : ℤ) : Type 0 where
@@ -104,9 +112,13 @@ length-at runs y h k = year-stretch runs y (record { from = leb-yes h; to = ltb-
 reforming : (r : ℕ) → T (leb 784_368_640_634 r) → T (leb r 786_514_249_530) → Runs (Reforming (day r)) r
 reforming r h k = reforming-runs r (accepts r (leb-yes h) (leb-yes k))
 
-not-there : There G.leapAt 2_147_484_300 2 29 → ⊥
-unfolding monthLength
-not-there (h, k, g, l) = omega arith
+-- a label of the Julian calendar that a switch took away, of a month that was over by then in the Gregorian one
+taken-away : {c : Calendar} {r : ℕ} → Runs c r → (y m d : ℕ) → T (testThere J.leapAt y m d) → T (leb r (number J.leapAt J.start y m d)) → T (leb (gregorianPast y m) r) → Skipped c (label (year y) m d)
+taken-away runs y m d t u v = let (h, w) = tested J.leapAt y m d t in in-gap runs y m d refl h w (leb-yes u) (month-over (leb-yes v))
+
+-- a label of neither
+in-neither : {c : Calendar} {r : ℕ} → Runs c r → (y m d : ℕ) → T (leb 352 y) → T (ltb y 4_294_967_648) → ¬ There G.leapAt y m d → ¬ There J.leapAt y m d → Missing c (label (year y) m d)
+in-neither runs y m d h k n i = on-none runs y m d refl (record { from = leb-yes h; to = ltb-yes k }) n (λ t. absurd (i t)) (λ t. absurd (i t))
 
 pub known-days : KnownDays
 unfolding monthLength testThere
@@ -127,7 +139,7 @@ known-days =
       length-1582 = length-at (reforming 784_369_109_103 tt tt) 2_147_485_582 tt tt;
       last-julian-300 = in-julian (reforming 784_368_640_634 tt tt) 2_147_484_300 2 28 tt tt .dated .0;
       first-gregorian-300 = in-gregorian (reforming 784_368_640_634 tt tt) 2_147_484_300 3 1 tt tt .dated;
-      missing-300 = on-none (reforming 784_368_640_634 tt tt) 2_147_484_300 2 29 refl (record { from = omega arith; to = omega arith }) not-there (λ t. omega arith);
+      skipped-300 = taken-away (reforming 784_368_640_634 tt tt) 2_147_484_300 2 29 tt tt tt;
       length-1911 = length-at (reforming 784_369_229_345 tt tt) 2_147_485_911 tt tt;
       first-gregorian-1912 = in-gregorian (reforming 784_369_229_345 tt tt) 2_147_485_912 1 1 tt tt .dated;
       first-gregorian-1752 = in-1752 .dated;
@@ -136,6 +148,15 @@ known-days =
       day-ordinal-december = in-december .day-ordinal;
       friday = weekday-is 2_149_782_809;
       second-before-epoch = record { rest = omega arith; adds = refl };
+    }
+
+pub known-gaps : KnownGaps
+unfolding monthLength testThere
+known-gaps =
+    record {
+      skipped-1700 = taken-away (reforming 784_369_151_974 tt tt) 2_147_485_700 2 29 tt tt tt;
+      missing-1700 = in-neither (reforming 784_369_151_974 tt tt) 2_147_485_700 2 30 tt tt (λ (h, k, g, l). omega arith) (λ (h, k, g, l). omega arith);
+      missing-1753 = in-neither (reforming 784_369_171_332 tt tt) 2_147_485_753 2 29 tt tt (λ (h, k, g, l). omega arith) (λ (h, k, g, l). omega arith);
     }
 
 pub named-days : NamedDays (pos 2_299_161) (pos 2_440_588) (pos 1_721_425)

@@ -33,3 +33,5 @@ pub mod ReformationRules
 pub mod ReformationTable
 pub mod AcceptedCalendars
 pub mod AcceptedYears
+-- Which labels can be skipped.
+pub mod SkippedLabels

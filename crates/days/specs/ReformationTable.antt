@@ -32,7 +32,7 @@ use Rattle.days.specs.ReckoningLabels.{julian-rises, gregorian-rises}
 -- ---- the Julian day of a Gregorian label
 
 -- a month is no shorter in the Julian calendar
-no-shorter : (b c : Bool) (m : ℕ) → 1 ≤ m → m ≤ 12 → monthLength (b && c) m ≤ monthLength b m
+pub no-shorter : (b c : Bool) (m : ℕ) → 1 ≤ m → m ≤ 12 → monthLength (b && c) m ≤ monthLength b m
 unfolding monthLength
 no-shorter true true m h k = omega arith
 no-shorter true false m h k = twelve (λ m. monthLength false m ≤ monthLength true m)

@@ -12,7 +12,7 @@ use lib.Signed.{_<ℤ_, _≤ℤ_, <ℤ-≤ℤ-trans, clashℤ}
 use Rattle.whole.specs.Biased.{unbias-suc, unbias-sub}
 use Rattle.whole.specs.Edge.{fits-from, fits-to, fits-between}
 use Rattle.whole.specs.Integers.{lt-or-ge, le-trans, le-lt-trans, antisym, eq-le, unbias-up, unbias-le}
-use Rattle.days.specs.DayByDay.{Label, label, Reckoning, labelOf, julian, gregorian, _≺_, by-year, Switch, Timeline, labelsIn, Rises, Borne, OfYear, Is32Bit, SwitchDay, this, later, SkippedIn}
+use Rattle.days.specs.DayByDay.{Label, label, Reckoning, labelOf, julian, gregorian, _≺_, by-year, Switch, Timeline, labelsIn, Rises, Borne, OfYear, Is32Bit, SwitchDay, this, later, Skippable, SkippedIn}
 use Rattle.days.specs.LabelOrder.{≺-irrefl, ≺-trans, ≺-year, ≺-total}
 use Rattle.days.specs.RisingLabels.{no-later, no-earlier-year}
 use Rattle.days.specs.RisingSpans.{Proper, First, first-by, first-at, Stretch, stretch, year-span, biased-from}
@@ -20,7 +20,7 @@ use Rattle.days.specs.BiasedDays.{dayBias, yearBias, day, year}
 use Rattle.days.specs.ClosedStarts.{Starts, start-right}
 use Rattle.days.specs.ClosedJulian as J
 use Rattle.days.specs.ClosedGregorian as G
-use Rattle.days.specs.ReckoningLabels.{reckoning-rises, gregorian-rises}
+use Rattle.days.specs.ReckoningLabels.{reckoning-rises, julian-rises, gregorian-rises}
 
 -- P holds, or it doesn't
 abbrev pub Decided : Type 0 → Type 0
@@ -115,6 +115,11 @@ switch-or-none {P} decides (s ∷ l) = ⊎-elim (λ p. inl (s .on, this, p))
     by x y this p = x p
     by x y (later i) p = y (_, i, p)
 
+skippable-or-not : {l : Label} → Is32Bit (l .year) → Decided (Skippable l)
+skippable-or-not f = ⊎-elim (λ b. inl (inl b))
+    (λ x. ⊎-elim (λ b. inl (inr b)) (λ y. inr (⊎-elim x y)) (borne-or-not gregorian-rises (λ n. inr refl) f))
+    (borne-or-not julian-rises (λ n. inl refl) f)
+
 pub skipped-or-not : (t : Timeline) {l : Label} → Is32Bit (l .year) → Decided (SkippedIn t l)
 skipped-or-not t {l} f = ⊎-elim
     (λ b. ⊎-elim
@@ -122,7 +127,7 @@ skipped-or-not t {l} f = ⊎-elim
     (λ x. inr (λ s. x (s .switch, s .switches, (s .past-last, s .before-first))))
     (switch-or-none over (t .switches)))
     (λ x. inr (λ s. x (s .skippable)))
-    (borne-or-not gregorian-rises (λ n. inr refl) f)
+    (skippable-or-not f)
   where
     over : (d : ℤ) → Decided ((labelsIn t (d -ℤ pos 1) ≺ l) × (l ≺ labelsIn t d))
     over d = ⊎-elim (λ p. ⊎-elim (λ q. inl (p, q)) (λ x. inr (λ h. x (h .1))) (earlier-or-not l (labelsIn t d))) (λ x. inr (λ h. x (h .0)))

@@ -24,6 +24,10 @@ module _ {f : ℤ → Label} (up : Rises f) where
   pub no-later : {a b : ℤ} {l : Label} → a ≤ℤ b → f b ≺ l → f a ≺ l
   no-later {a} {b} {l} g q = ⊎-elim (λ h. ≺-trans (up a b h) q) (λ h. subst (λ (z : ℤ). f z ≺ l) (antisym h g) q) (lt-or-ge a b)
 
+  -- and a day that is no earlier has no earlier label
+  pub no-earlier : {a b : ℤ} {l : Label} → a ≤ℤ b → l ≺ f a → l ≺ f b
+  no-earlier {a} {b} {l} g q = ⊎-elim (λ h. ≺-trans q (up a b h)) (λ h. subst (λ (z : ℤ). l ≺ f z) (antisym g h) q) (lt-or-ge a b)
+
   -- no two days bear one label
   pub once : {a b : ℤ} → f a ≡ f b → a ≡ b
   once {a} {b} e = ⊎-elim (λ h. absurd (≺-irrefl (subst (λ (l : Label). f a ≺ l) (sym e) (up a b h))))

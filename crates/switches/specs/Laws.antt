@@ -18,7 +18,7 @@ use Rattle.days.specs.ClosedGregorian as G
 use Rattle.days.specs.ClosedNumbers.{There, daysBefore, ThereIn}
 use Rattle.days.specs.ReformationTable.{there-too}
 use Rattle.days.specs.ReckoningSteps.{month-some}
-use Rattle.days.specs.ClosedRuns.{top, yearFirst, firstDay, first-julian, first-gregorian, first-cases, julianMonth, gregorianMonth, monthFirst, monthPast}
+use Rattle.days.specs.ClosedRuns.{top, yearFirst, firstDay, first-julian, first-gregorian, first-cases, julianMonth, gregorianMonth, gregorianPast, day-before, month-over, monthFirst, monthPast}
 use Rattle.inner.specs.Natural.{biasedYear}
 use Rattle.monthdays.specs.Promise.{OrdinalOf, ordinal, no-ordinal}
 use Rattle.monthdays.specs.One.{in-year-ordinal}
@@ -32,8 +32,9 @@ use Rattle.inner.specs.declared.Spot as S
 use Rattle.inner.specs.Spots.{At, spot, at-number}
 use Rattle.switches.specs.declared.Found.the-variants as Found′
 use Rattle.switches.specs.declared.Read.the-variants as Read′
-use Rattle.switches.specs.Promise.{YearSpan, YearIn, begins-old, begins-new, monthSpan, SpansMonth, spans-month, NoneBelow, Finds, finds-old, finds-new, finds-gap, finds-none}
-use Rattle.switches.specs.Private.{MonthIn, Reads, reads-at, reads-none, ReadsBelow, below-at, below-none}
+use Rattle.switches.specs.declared.Below.the-variants as Below′
+use Rattle.switches.specs.Promise.{YearSpan, YearIn, begins-old, begins-new, monthSpan, SpansMonth, spans-month, NoneBelow, NotOver, Finds, finds-old, finds-new, finds-gap, finds-none, RefusesNonGregorian, taken-away, never-there}
+use Rattle.switches.specs.Private.{MonthIn, Reads, reads-at, reads-none, ReadsBelow, below-at, below-none, below-later}
 
 -- ---- The day of a label
 module _ (leapAt : ℕ → Bool) (start : ℕ → ℕ) (y m d : ℕ) {b : Bool} {t : ℕ} (h : BiasedYear (biasedYear y)) (e : b ≡ leapAt (biasedYear y)) (f : t ≡ start (biasedYear y)) where
@@ -57,38 +58,52 @@ module _ (leapAt : ℕ → Bool) (start : ℕ → ℕ) (y m d : ℕ) {b : Bool} 
   read-none : ¬ ThereIn b m d → ¬ There leapAt (biasedYear y) m d
   read-none n t = n (t .0, t .1, t .2, subst (λ (b : Bool). d ≤ monthLength b m) (sym e) (t .3))
 
+-- what the Julian calendar does not have the Gregorian one does not have either, and no day bears it
+pub julian-none : {r : ℕ} (y : ℕ) {m d : ℕ} → ¬ There J.leapAt (biasedYear y) m d → Finds r y m d (Found′.Refused (refusal 4 0 (pos d)))
+julian-none y {m} {d} n = finds-none (λ t. n (there-too (biasedYear y) m d t)) (λ t. absurd (n t)) (λ t. absurd (n t))
+
 module _ {r y m d t : ℕ} {b : Bool} (h : BiasedYear (biasedYear y)) where
   -- in the Julian reckoning
-  pub below-found : {s : S.Spot} → b ≡ J.leapAt (biasedYear y) → t ≡ J.start (biasedYear y) → Reads b t y m d (Read′.At s) → s .biased < r → ReadsBelow r y m d (Read′.At s)
+  pub below-found : {s : S.Spot} → b ≡ J.leapAt (biasedYear y) → t ≡ J.start (biasedYear y) → Reads b t y m d (Read′.At s) → s .biased < r → ReadsBelow r y m d (Below′.At s)
   below-found e f (reads-at v q) g = below-at g (read-at J.leapAt J.start y m d h e f v q)
 
-  pub below-late : {s : S.Spot} → b ≡ J.leapAt (biasedYear y) → t ≡ J.start (biasedYear y) → Reads b t y m d (Read′.At s) → r ≤ s .biased → ReadsBelow r y m d Read′.Nothing
-  below-late e f (reads-at v q) g = below-none (λ i. subst (λ (n : ℕ). r ≤ n) (sym (at-number (read-at J.leapAt J.start y m d h e f v q))) g)
+  pub below-late : {s : S.Spot} → b ≡ J.leapAt (biasedYear y) → t ≡ J.start (biasedYear y) → Reads b t y m d (Read′.At s) → r ≤ s .biased → ReadsBelow r y m d Below′.Later
+  below-late e f (reads-at v q) g = below-later (λ i. subst (λ (n : ℕ). r ≤ n) (sym (at-number (read-at J.leapAt J.start y m d h e f v q))) g)
 
-  pub below-not : b ≡ J.leapAt (biasedYear y) → t ≡ J.start (biasedYear y) → Reads b t y m d Read′.Nothing → ReadsBelow r y m d Read′.Nothing
-  below-not e f (reads-none n) = below-none (λ i. absurd (read-none J.leapAt J.start y m d h e f n i))
+  pub below-not : b ≡ J.leapAt (biasedYear y) → t ≡ J.start (biasedYear y) → Reads b t y m d Read′.Nothing → ReadsBelow r y m d Below′.Nothing
+  below-not e f (reads-none n) = below-none (read-none J.leapAt J.start y m d h e f n)
 
-  -- in the calendar
-  pub new-found : {s : S.Spot} → b ≡ G.leapAt (biasedYear y) → t ≡ G.start (biasedYear y) → Reads b t y m d (Read′.At s) → r ≤ s .biased → ReadsBelow r y m d Read′.Nothing → Finds r y m d (Found′.At s)
-  new-found e f (reads-at v q) g (below-none n) = finds-new g (read-at G.leapAt G.start y m d h e f v q) n
+  -- in the calendar, from r on
+  module _ (e : b ≡ G.leapAt (biasedYear y)) (f : t ≡ G.start (biasedYear y)) (n : NoneBelow r y m d) where
+    pub new-found : {s : S.Spot} → Reads b t y m d (Read′.At s) → r ≤ s .biased → Finds r y m d (Found′.At s)
+    new-found (reads-at v q) g = finds-new g (read-at G.leapAt G.start y m d h e f v q) n
 
-  pub gap-found : {s : S.Spot} → b ≡ G.leapAt (biasedYear y) → t ≡ G.start (biasedYear y) → Reads b t y m d (Read′.At s) → s .biased < r → ReadsBelow r y m d Read′.Nothing → Finds r y m d (Found′.Refused (refusal 5 0 (pos d)))
-  gap-found e f (reads-at v q) g (below-none n) =
-      let i : There G.leapAt (biasedYear y) m d = read-there G.leapAt G.start y m d h e f v in
-      finds-gap i (n (there-too (biasedYear y) m d i)) (subst (λ (n : ℕ). n < r) (sym (at-number (read-at G.leapAt G.start y m d h e f v q))) g)
+    pub gap-found : {s : S.Spot} → Reads b t y m d (Read′.At s) → s .biased < r → Finds r y m d (Found′.Refused (refusal 5 0 (pos d)))
+    gap-found (reads-at v q) g =
+        let a = read-at G.leapAt G.start y m d h e f v q in
+        let i : There J.leapAt (biasedYear y) m d = there-too (biasedYear y) m d (a .there) in
+        finds-gap i (n i) (day-before (a .there) (subst (λ (n : ℕ). n < r) (sym (at-number a)) g))
 
-  pub none-found : b ≡ G.leapAt (biasedYear y) → t ≡ G.start (biasedYear y) → Reads b t y m d Read′.Nothing → ReadsBelow r y m d Read′.Nothing → Finds r y m d (Found′.Refused (refusal 4 0 (pos d)))
-  none-found e f (reads-none n) (below-none l) = finds-none (read-none G.leapAt G.start y m d h e f n) l
+    pub none-found : {k : ℕ} → Reads b t y m d Read′.Nothing → RefusesNonGregorian r y m d k → Finds r y m d (Found′.Refused (refusal k 0 (pos d)))
+    none-found (reads-none x) (taken-away i g) = finds-gap i (n i) (month-over g)
+    none-found (reads-none x) (never-there g) = finds-none (read-none G.leapAt G.start y m d h e f x) n g
 
 -- no Julian day of a year that begins from r on is before r
-pub below-year : {r y m d t : ℕ} → t ≡ J.start (biasedYear y) → r ≤ t → ReadsBelow r y m d Read′.Nothing
-below-year {r} {y} {m} {d} f g = below-none (λ i. after (daysBefore (J.leapAt (biasedYear y)) m) (subst (λ (n : ℕ). r ≤ n) f g) (i .2))
+pub below-year : {r y m d t : ℕ} → t ≡ J.start (biasedYear y) → r ≤ t → ReadsBelow r y m d Below′.Later
+below-year {r} {y} {m} {d} f g = below-later (λ i. after (daysBefore (J.leapAt (biasedYear y)) m) (subst (λ (n : ℕ). r ≤ n) f g) (i .2))
   where
     after : (k : ℕ) {s : ℕ} → r ≤ s → 1 ≤ d → r ≤ s + k + d - 1
     after k g i = omega arith
 
-pub old-found : {r y m d : ℕ} {s : S.Spot} → ReadsBelow r y m d (Read′.At s) → Finds r y m d (Found′.At s)
+-- what is below r says of the calendar
+pub old-found : {r y m d : ℕ} {s : S.Spot} → ReadsBelow r y m d (Below′.At s) → Finds r y m d (Found′.At s)
 old-found (below-at g a) = finds-old g a
+
+pub neither-found : {r m d : ℕ} (y : ℕ) → ReadsBelow r y m d Below′.Nothing → Finds r y m d (Found′.Refused (refusal 4 0 (pos d)))
+neither-found y (below-none n) = julian-none y n
+
+pub later-none : {r y m d : ℕ} → ReadsBelow r y m d Below′.Later → NoneBelow r y m d
+later-none (below-later n) = n
 
 -- ---- The days of a year
 
@@ -138,10 +153,17 @@ pub year-wholly : {r y : ℕ} {p : PlainYear} → YearIn r y p → p .whole ≡ 
 year-wholly {r} {y} (begins-old g) e = wholly-old (ltb→lt (J.start y + 366) r (subst T (sym e) tt))
 year-wholly {r} {y} (begins-new g) e = wholly-new g (leb→le r (G.start y) (subst T (sym e) tt))
 
+-- no month of a year that begins from r on is over by r
+not-over : {r : ℕ} (y m d : ℕ) → r ≤ G.start y → There J.leapAt y m d → r < gregorianPast y m
+not-over {r} y m d h t = after (G.start y) (daysBefore (G.leapAt y) m) h (month-some (G.leapAt y) m (t .0) (t .1))
+  where
+    after : (s b : ℕ) {n : ℕ} → r ≤ s → 1 ≤ n → r < s + b + n
+    after s b h k = omega arith
+
 -- what its reckoning does not have there is nowhere in the other one
-pub wholly-none : {r : ℕ} (y : ℕ) {t m d : ℕ} {b : Bool} → Wholly r (biasedYear y) t b → ¬ ThereIn b m d → (¬ There G.leapAt (biasedYear y) m d) × NoneBelow r y m d
-wholly-none y {m = m} {d} (wholly-old g) n = (λ v. n (there-too (biasedYear y) m d v), λ v. absurd (n v))
-wholly-none {r} y {m = m} {d} (wholly-new g h) n = (n, λ v. late (J.start (biasedYear y)) (daysBefore (J.leapAt (biasedYear y)) m) g (v .2))
+pub wholly-none : {r : ℕ} (y : ℕ) {t m d : ℕ} {b : Bool} → Wholly r (biasedYear y) t b → ¬ ThereIn b m d → (¬ There G.leapAt (biasedYear y) m d) × NoneBelow r y m d × NotOver r y m d
+wholly-none y {m = m} {d} (wholly-old g) n = (λ v. n (there-too (biasedYear y) m d v), λ v. absurd (n v), λ v. absurd (n v))
+wholly-none {r} y {m = m} {d} (wholly-new g h) n = (n, λ v. late (J.start (biasedYear y)) (daysBefore (J.leapAt (biasedYear y)) m) g (v .2), not-over (biasedYear y) m d h)
   where
     late : (s b : ℕ) → r ≤ s → 1 ≤ d → r ≤ s + b + d - 1
     late s b g h = omega arith
@@ -206,3 +228,18 @@ month-span-is r y m {g = g} {a = a} {b} v e f h i p q =
     let past : b ≡ monthPast r y m = q ∙ ap₂ (firstDay r) h i in
     let same : record { switch = r; first = a; past = b; gregorian = g } ≡ monthSpan r y m = cc in
     subst (λ (s : MonthSpan). SpansMonth r y m (Spanned′.Month s)) (sym same) (spans-month v)
+
+-- ---- A label that the Gregorian calendar does not have
+pub non-gregorian-year : {r m d t : ℕ} (y : ℕ) → t ≡ G.start (biasedYear y) → r ≤ t → RefusesNonGregorian r y m d 4
+non-gregorian-year {r} {m} {d} y f g = never-there (not-over (biasedYear y) m d (subst (λ (n : ℕ). r ≤ n) f g))
+
+pub non-julian : {r m d : ℕ} (y : ℕ) {b : Bool} → b ≡ J.leapAt (biasedYear y) → OrdinalOf b m d DayOrdinal′.Nothing → RefusesNonGregorian r y m d 4
+non-julian {m = m} {d} y e n = never-there (λ v. absurd (ordinal-none n (subst (λ (b : Bool). ThereIn b m d) (sym e) v)))
+
+module _ {r m d t o : ℕ} (y : ℕ) {b c : Bool} {p : PlainMonth} (e : b ≡ J.leapAt (biasedYear y)) (i : c ≡ G.leapAt (biasedYear y)) (f : t ≡ G.start (biasedYear y))
+    (a : OrdinalOf b m d (DayOrdinal′.At o)) (q : MonthIn c t m p) where
+  pub over-by-then : p .first + p .days ≤ r → RefusesNonGregorian r y m d 5
+  over-by-then g = taken-away (subst (λ (b : Bool). ThereIn b m d) e (ordinal-sum a .0)) (subst (λ (n : ℕ). n ≤ r) (plain-past G.leapAt G.start (biasedYear y) i f q) g)
+
+  pub not-over-then : r < p .first + p .days → RefusesNonGregorian r y m d 4
+  not-over-then g = never-there (λ v. subst (λ (n : ℕ). r < n) (plain-past G.leapAt G.start (biasedYear y) i f q) g)

@@ -10,7 +10,7 @@ use Rattle.days.specs.BiasedDays.{day}
 use Rattle.days.specs.ClosedJulian as J
 use Rattle.days.specs.ClosedGregorian as G
 use Rattle.days.specs.ClosedNumbers.{There, number}
-use Rattle.days.specs.ClosedRuns.{top, yearFirst, gregorianMonth, monthFirst, monthPast}
+use Rattle.days.specs.ClosedRuns.{top, yearFirst, gregorianMonth, gregorianPast, ComesBefore, monthFirst, monthPast}
 use Rattle.days.specs.ReformationRules.{accepted, refused-1, refused-2, Judged}
 use Rattle.inner.specs.Natural.{biasedYear}
 use Rattle.inner.specs.Spots.{At, spot}
@@ -48,13 +48,23 @@ pub data SpansMonth (r y m : ℕ) : Spanned → Type 0 where
 abbrev pub NoneBelow : ℕ → ℕ → ℕ → ℕ → Type 0
 NoneBelow r y m d = There J.leapAt (biasedYear y) m d → r ≤ number J.leapAt J.start (biasedYear y) m d
 
+-- where the Julian calendar has the label, its month is not over by day r in the Gregorian one
+abbrev pub NotOver : ℕ → ℕ → ℕ → ℕ → Type 0
+NotOver r y m d = There J.leapAt (biasedYear y) m d → r < gregorianPast (biasedYear y) m
+
 -- the day of a label in the calendar: its Julian day where that is before r, and else its Gregorian day where that is not; 5 where it is
 -- skipped, and 4 where it is nowhere
 pub data Finds (r y m d : ℕ) : Found → Type 0 where
   finds-old : {k o : ℕ} → k < r → At J.leapAt J.start k (biasedYear y) m d o → Finds r y m d (Found′.At (spot k y o m d))
   finds-new : {k o : ℕ} → r ≤ k → At G.leapAt G.start k (biasedYear y) m d o → NoneBelow r y m d → Finds r y m d (Found′.At (spot k y o m d))
-  finds-gap : There G.leapAt (biasedYear y) m d → r ≤ number J.leapAt J.start (biasedYear y) m d → number G.leapAt G.start (biasedYear y) m d < r → Finds r y m d (Found′.Refused (refusal 5 0 (pos d)))
-  finds-none : ¬ There G.leapAt (biasedYear y) m d → NoneBelow r y m d → Finds r y m d (Found′.Refused (refusal 4 0 (pos d)))
+  finds-gap : There J.leapAt (biasedYear y) m d → r ≤ number J.leapAt J.start (biasedYear y) m d → ComesBefore r (biasedYear y) m d → Finds r y m d (Found′.Refused (refusal 5 0 (pos d)))
+  finds-none : ¬ There G.leapAt (biasedYear y) m d → NoneBelow r y m d → NotOver r y m d → Finds r y m d (Found′.Refused (refusal 4 0 (pos d)))
+
+-- the number of the refusal of a label that the Gregorian calendar does not have and no Julian day before r bears: 5 where the Julian calendar
+-- has it, and its month is over by day r in the Gregorian one; else 4
+pub data RefusesNonGregorian (r y m d : ℕ) : ℕ → Type 0 where
+  taken-away : There J.leapAt (biasedYear y) m d → gregorianPast (biasedYear y) m ≤ r → RefusesNonGregorian r y m d 5
+  never-there : NotOver r y m d → RefusesNonGregorian r y m d 4
 
 -- ---- A day of reformation: the number that it is biased as, or the number of the refusal
 pub data Judges (r : ℤ) : Judgement → Type 0 where

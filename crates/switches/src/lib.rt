@@ -9,7 +9,7 @@ ghost use Rattle.days.specs.ClosedRuns.{firstDay};
 ghost use Rattle.days.specs.DayByDay.{Month};
 ghost use Rattle.inner.specs.Natural.{biasedYear};
 ghost use Rattle.switches.specs.Private.{Reads, ReadsBelow, MonthIn};
-ghost use Rattle.switches.specs.Promise.{Finds, YearSpan, YearIn, SpansMonth};
+ghost use Rattle.switches.specs.Promise.{NoneBelow, Finds, RefusesNonGregorian, YearSpan, YearIn, SpansMonth};
 use inner::Spot;
 use monthdays::DayOrdinal;
 use refusals::Refusal;
@@ -156,29 +156,81 @@ pub enum Found {
 }
 
 // A label is on its Julian day where that is before the switch, and on its Gregorian day where that is not before it. One that is skipped is
-// refused 5, and one that is nowhere 4, with the day of the month.
+// refused 5, and one that is nowhere 4, with the day of the month. What the Julian calendar does not have the Gregorian one does not have either.
 pub fn find(switch: u64, year: u32, month: u32, day: u32) -> Found
     ensures { λ f. ⌜ Finds switch year month day f ⌝ }
 {
     match julian_below(switch, year, month, day) {
-        Read::At(s) => Found::At(s),
-        Read::Nothing => {
-            let new = reading(
-                inner::is_gregorian_leap(year),
-                inner::gregorian_start(year),
-                year,
-                month,
-                day,
-            );
-            match new {
-                Read::Nothing => Found::Refused(refusal_with(4, day)),
-                Read::At(t) => {
-                    if switch <= t.biased {
-                        return Found::At(t);
-                    }
-                    Found::Refused(refusal_with(5, day))
-                }
+        Below::At(s) => Found::At(s),
+        Below::Nothing => Found::Refused(refusal_with(4, day)),
+        Below::Later => find_later(switch, year, month, day),
+    }
+}
+
+// The day of a label in the Julian reckoning, where that is before the switch; or that this reckoning does not have it; or that it is to be looked
+// for from the switch on. A year that begins from the switch on has no Julian day before it.
+enum Below {
+    At(Spot),
+    Nothing,
+    Later,
+}
+
+fn julian_below(switch: u64, year: u32, month: u32, day: u32) -> Below
+    ensures { λ r. ⌜ ReadsBelow switch year month day r ⌝ }
+{
+    let start = inner::julian_start(year);
+    if switch <= start {
+        return Below::Later;
+    }
+    match reading(inner::is_julian_leap(year), start, year, month, day) {
+        Read::Nothing => Below::Nothing,
+        Read::At(s) => {
+            if s.biased < switch {
+                return Below::At(s);
             }
+            Below::Later
+        }
+    }
+}
+
+// From the switch on.
+fn find_later(switch: u64, year: u32, month: u32, day: u32) -> Found
+    requires { ⌜ NoneBelow switch year month day ⌝ }
+    ensures { λ f. ⌜ Finds switch year month day f ⌝ }
+{
+    let start = inner::gregorian_start(year);
+    match reading(inner::is_gregorian_leap(year), start, year, month, day) {
+        Read::Nothing => {
+            let number = non_gregorian_refusal(switch, year, month, day);
+            Found::Refused(refusal_with(number, day))
+        }
+        Read::At(t) => {
+            if switch <= t.biased {
+                return Found::At(t);
+            }
+            Found::Refused(refusal_with(5, day))
+        }
+    }
+}
+
+// The number of the refusal of a label that the Gregorian calendar does not have and no Julian day before the switch bears. It is skipped where
+// the Julian calendar has it, and its month is over by the switch in the Gregorian one: so is 29 February of 1700 where 1 March is the first
+// Gregorian date, or a later day.
+pub fn non_gregorian_refusal(switch: u64, year: u32, month: u32, day: u32) -> u32
+    ensures { λ n. ⌜ RefusesNonGregorian switch year month day n ⌝ }
+{
+    let start = inner::gregorian_start(year);
+    if switch <= start {
+        return 4;
+    }
+    match monthdays::md2ordinal(inner::is_julian_leap(year), month, day) {
+        DayOrdinal::Nothing => 4,
+        DayOrdinal::At(_) => {
+            let new = month_in(inner::is_gregorian_leap(year), start, month);
+            if new.first + new.days as u64 <= switch {
+                return 5;
+            }
+            4
         }
     }
 }
@@ -186,25 +238,6 @@ pub fn find(switch: u64, year: u32, month: u32, day: u32) -> Found
 enum Read {
     At(Spot),
     Nothing,
-}
-
-// The day of a label in the Julian reckoning, where that is before the switch. There is none in a year that begins from the switch on.
-fn julian_below(switch: u64, year: u32, month: u32, day: u32) -> Read
-    ensures { λ r. ⌜ ReadsBelow switch year month day r ⌝ }
-{
-    let start = inner::julian_start(year);
-    if switch <= start {
-        return Read::Nothing;
-    }
-    match reading(inner::is_julian_leap(year), start, year, month, day) {
-        Read::Nothing => Read::Nothing,
-        Read::At(s) => {
-            if s.biased < switch {
-                return Read::At(s);
-            }
-            Read::Nothing
-        }
-    }
 }
 
 // The day of a label in a reckoning, by the first day of the year and whether that is leap.

@@ -31,6 +31,12 @@ reading-requires c κs = search needs
 enum-told : tie.Need-enum-told
 enum-told c = search needs
 
+non-gregorian-refusal-requires : tie.Need-non-gregorian-refusal-requires
+non-gregorian-refusal-requires c κs = search needs
+
+cast-result : tie.Need-cast-result
+cast-result c = search needs
+
 enum-known-s : tie.Need-enum-known-s
 enum-known-s c = search needs
 
@@ -62,8 +68,8 @@ add-result-2 c = record { fits = omega (arith, room (c .before .before) .1, c .m
 
 returns-2 : tie.Need-returns-2
 returns-2 c =
-    let n = c .before .before in
-    turned-none (raised-year-biased (n .before .before .before .fits .year .fits)) (n .before .is-gregorian-leap .ensures) (n .before .before .gregorian-start .ensures) (rw (c .enum-told .given .1) at (n .reading .ensures))
+    let n = c .before .before .before in
+    turned-none (raised-year-biased (n .before .before .before .fits .year .fits)) (n .before .is-gregorian-leap .ensures) (n .before .before .gregorian-start .ensures) (rw (c .before .enum-told .given .1) at (n .reading .ensures)) (c .non-gregorian-refusal .ensures)
 
 returns-3 : tie.Need-returns-3
 returns-3 c =
@@ -79,6 +85,8 @@ turned-label-spec =
     is-gregorian-leap-requires
     reading-requires
     enum-told
+    non-gregorian-refusal-requires
+    cast-result
     enum-known-s
     returns
     julian-start-requires
