@@ -105,7 +105,8 @@ def bearer(c, lab):
 
 
 def skipped(c, lab):
-    if c in ('J', 'G') or G.day(lab) is None:
+    """Strictly between the last Julian and the first Gregorian label, and valid in the Julian or the Gregorian calendar."""
+    if c in ('J', 'G') or (J.day(lab) is None and G.day(lab) is None):
         return False
     return J.label(c - 1) < lab < G.label(c)
 

@@ -159,9 +159,10 @@ impl Switched {
     pub fn label(self, day: i64) -> Label {
         label(day < self.switch, day)
     }
-    /// Strictly between the labels on both sides of the switch, and a Gregorian label.
+    /// Strictly between the labels on both sides of the switch, and a Julian or a Gregorian label.
     fn skips(self, l: Label) -> bool {
-        matches!(self.cal, Cal::Reforming(_)) && is_label(false, l) && self.label(self.switch - 1) < l && l < self.label(self.switch)
+        let valid = is_label(true, l) || is_label(false, l);
+        matches!(self.cal, Cal::Reforming(_)) && valid && self.label(self.switch - 1) < l && l < self.label(self.switch)
     }
     /// The day that bears a label, also one outside 32 bits.
     pub fn find(self, l: Label) -> Or<i64> {

@@ -14,8 +14,8 @@ pub const RULES: &[Rule] = &[
     Rule { name: "year too short by one", says: short_year },
     Rule { name: "position wraps around", says: position_wraps },
     Rule { name: "date of a position outside 32 bits", says: outside },
-    Rule { name: "29 February named skipped", says: february },
-    Rule { name: "day of a skipped month named skipped", says: skipped_month },
+    Rule { name: "29 February of a year that is not leap named skipped", says: february },
+    Rule { name: "no day of a skipped month named skipped", says: skipped_month },
     Rule { name: "text that is not UTF-8", says: not_utf8 },
 ];
 
@@ -238,7 +238,7 @@ fn missing(query: &Query) -> Option<(Switched, Label, Refusal)> {
 }
 
 /// 29 February, where the last Julian day is in that February and the first Gregorian day in a later month: the crate gives that February 29
-/// days, whatever the year, and calls the day skipped. It is no Gregorian date.
+/// days, whatever the year, and calls the day skipped. Where the year is leap in neither calendar it is no date, and the definition says 4.
 fn february(query: &Query) -> Option<String> {
     let (cal, l, why) = missing(query)?;
     let Cal::Reforming(r) = cal.cal else { return None };
@@ -247,7 +247,7 @@ fn february(query: &Query) -> Option<String> {
     (l.1 == 2 && l.2 == 29 && in_it).then(|| refused(why))?
 }
 
-/// In a month that is skipped as a whole the crate calls every number of a day skipped.
+/// In a month that is skipped as a whole the crate calls every number of a day skipped, also one that neither calendar has there.
 fn skipped_month(query: &Query) -> Option<String> {
     let (cal, l, why) = missing(query)?;
     let Cal::Reforming(r) = cal.cal else { return None };
