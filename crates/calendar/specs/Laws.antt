@@ -50,7 +50,7 @@ use Rattle.calendar.specs.declared.record.Read.the-variants as Read′
 use Rattle.inner.specs.declared.Spot as S
 use Rattle.inner.specs.Spots.{At, spot, at-number, at-from, at-few}
 use Rattle.switches.specs.declared.Found.the-variants as Found′
-use Rattle.switches.specs.Laws.{starts-close, julian-none, Wholly, wholly-old, wholly-new, wholly-none, wholly-days, ordinal-sum, read-at}
+use Rattle.switches.specs.Laws.{starts-close, Wholly, wholly-old, wholly-new, wholly-none, wholly-days, ordinal-sum, read-at}
 use Rattle.refusals.specs.declared.Refusal.{Refusal}
 use Rattle.ways.specs.declared.Neighbour.the-variants as Neighbour′
 use Rattle.ways.specs.Promise.{IsNeighbour, there, nowhere}
@@ -509,9 +509,9 @@ module _ {r m d t : ℕ} {b : Bool} (y : ℕ) (h : BiasedYear (biasedYear y)) wh
       let (l, p) = in-new (subst (λ (k : ℕ). r ≤ k) f g) (read-at G.leapAt G.start y m d h e f v q) in
       (plain-stands w (spot (t + o - 1) y o m d) l p, refl, refl)
 
-  -- a label that the Julian calendar has not, and one that a year has not which begins from the switch on
-  pub old-none : b ≡ J.leapAt (biasedYear y) → ReadsLabel b t y m d Read′.Nothing → Finds r y m d (Found′.Refused (refusal 4 (pos d)))
-  old-none e (reads-none n) = julian-none y (subst (λ (b : Bool). ¬ ThereIn b m d) e n)
+  -- a label that a year has not which is wholly in one reckoning
+  pub old-none : b ≡ J.leapAt (biasedYear y) → t ≡ J.start (biasedYear y) → ReadsLabel b t y m d Read′.Nothing → t + 366 < r → Finds r y m d (Found′.Refused (refusal 4 (pos d)))
+  old-none e f (reads-none n) g = let (i, j, o) = wholly-none y (wholly-old (subst (λ (k : ℕ). k + 366 < r) f g)) (subst (λ (b : Bool). ¬ ThereIn b m d) e n) in finds-none i j o
 
   pub new-none : b ≡ G.leapAt (biasedYear y) → t ≡ G.start (biasedYear y) → ReadsLabel b t y m d Read′.Nothing → {u : ℕ} → u ≡ J.start (biasedYear y) → r ≤ u → r ≤ t → Finds r y m d (Found′.Refused (refusal 4 (pos d)))
   new-none e f (reads-none n) k i g =
@@ -519,6 +519,9 @@ module _ {r m d t : ℕ} {b : Bool} (y : ℕ) (h : BiasedYear (biasedYear y)) wh
       finds-none i j o
 
   -- one that is looked for from the switch on
+  pub later-none : b ≡ J.leapAt (biasedYear y) → t ≡ J.start (biasedYear y) → t < r → ReadsLabel b t y m d Read′.Nothing → LaterLabel r y m d
+  later-none e f g (reads-none n) = (λ i. absurd (n (i .0, i .1, i .2, subst (λ (b : Bool). d ≤ monthLength b m) (sym e) (i .3))), begun y f g)
+
   pub later-late : {s : S.Spot} → b ≡ J.leapAt (biasedYear y) → t ≡ J.start (biasedYear y) → t < r → ReadsLabel b t y m d (Read′.At s) → r ≤ s .biased → LaterLabel r y m d
   later-late e f g (reads-at v q) i = (λ j. subst (λ (n : ℕ). r ≤ n) (sym (at-number (read-at J.leapAt J.start y m d h e f v q))) i, begun y f g)
 

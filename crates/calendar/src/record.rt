@@ -237,7 +237,7 @@ enum Early {
     Later,
 }
 
-// A Julian day before the switch, a day of a year that begins from the switch on, and what the Julian calendar does not have.
+// A Julian day before the switch, and a day of a year that is wholly in one reckoning.
 fn plain_label(switch: u64, year: u32, month: u32, day: u32) -> Early
     requires { ⌜ SomeSwitch switch ⌝ }
     ensures { λ e. ⌜ PlacesEarly switch year month day e ⌝ }
@@ -245,7 +245,12 @@ fn plain_label(switch: u64, year: u32, month: u32, day: u32) -> Early
     let old = inner::julian_start(year);
     if old < switch {
         return match reading(inner::is_julian_leap(year), old, year, month, day) {
-            Read::Nothing => Early::Refused(refusals::refusal_with(4, day)),
+            Read::Nothing => {
+                if old + 366 < switch {
+                    return Early::Refused(refusals::refusal_with(4, day));
+                }
+                Early::Later
+            }
             Read::At(s) => {
                 if s.biased < switch {
                     return Early::At(plain_place(s));
