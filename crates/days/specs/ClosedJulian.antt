@@ -3,7 +3,7 @@
 use mathlib.Core.Path.{_≡_, ap}
 use mathlib.Core.Bool.{Bool, cond}
 use mathlib.Core.Logic.{_⊎_, ⊎-elim}
-use Prim.Native.Nat.{ℕ, suc, _+_, _-_, _*_, _<_, _≤_, _/_, _%_}
+use Prim.Native.Nat.{ℕ, suc, _+_, _*_, _/_, _%_}
 use native.Mathlib.Omega.{arith}
 use borrow.Author.Tests.{eq-eqb, ne-eqb}
 use lib.Dec.{eqb}
@@ -13,7 +13,7 @@ use Rattle.days.specs.ReckoningSteps.{Valid, label-anchor}
 use Rattle.days.specs.ClosedYear.{yearLength, dayOfMonth, through}
 use Rattle.days.specs.BiasedDays.{year}
 use Rattle.days.specs.ClosedDivides.{divides-4}
-use Rattle.days.specs.ClosedStarts.{Starts, InYear}
+use Rattle.days.specs.ClosedStarts.{Starts}
 
 abbrev pub leapAt : ℕ → Bool
 leapAt y = eqb (y % 4) 0
@@ -44,15 +44,4 @@ starts = record {
   place = 0;
   place-in = omega arith;
   known-label = label-anchor julian valid;
-}
-
--- the year and ordinal of a day, by cycles of four years, the first of which has 366 days
-pub in-first : (k : ℕ) → k % 1461 < 366 → InYear leapAt start k (4 * (k / 1461)) (k % 1461 + 1)
-in-first k h = record { from = omega arith; to = omega (arith, length-leap (4 * (k / 1461)) (omega arith)); adds = omega arith }
-
-pub in-later : (k : ℕ) → 366 ≤ k % 1461 → InYear leapAt start k (4 * (k / 1461) + 1 + (k % 1461 - 366) / 365) ((k % 1461 - 366) % 365 + 1)
-in-later k h = record {
-  from = omega arith;
-  to = omega (arith, length-common (4 * (k / 1461) + 1 + (k % 1461 - 366) / 365) (omega arith));
-  adds = omega arith;
 }

@@ -9,7 +9,7 @@ use native.Mathlib.Omega.{arith}
 use lib.IntN.{ℤ, pos, _-ℤ_}
 use Rattle.days.specs.DayByDay.{Label, label, Reckoning, labelOf}
 use Rattle.days.specs.ReckoningSteps.{Valid, month-some, after, after-injective, label-valid, label-after}
-use Rattle.days.specs.ClosedYear.{yearLength, dayOfYear, year-most, year-walk, year-over}
+use Rattle.days.specs.ClosedYear.{yearLength, dayOfYear, year-walk, year-over}
 use Rattle.whole.specs.Biased.{unbias-suc, unbias-add}
 use Rattle.days.specs.BiasedDays.{dayBias, yearBias, day, year}
 
@@ -28,11 +28,6 @@ pub record InYear (leapAt : ℕ → Bool) (start : ℕ → ℕ) (k : ℕ) (y : �
   pub from : 1 ≤ o
   pub to : o ≤ yearLength (leapAt y)
   pub adds : start y + o ≡ k + 1
-
--- a day past year 0 is of a later year
-pub past-zero : {leapAt : ℕ → Bool} {start : ℕ → ℕ} (k y o : ℕ) → InYear leapAt start k y o → start 0 + 366 ≤ k → 1 ≤ y
-past-zero {leapAt} k zero o p h = omega (arith, year-most (leapAt zero))
-past-zero k (suc y) o p h = omega arith
 
 -- what goes up and down by one holds everywhere
 pub everywhere : (P : ℕ → Type 0) → ((y : ℕ) → P y → P (suc y)) → ((y : ℕ) → P (suc y) → P y) → (k : ℕ) → P k → (y : ℕ) → P y

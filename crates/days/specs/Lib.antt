@@ -22,7 +22,7 @@ pub mod ClosedDivides
 pub mod ClosedStarts
 pub mod ClosedJulian
 pub mod ClosedGregorian
-pub mod ClosedVirtual
+pub mod ClosedCenturies
 pub mod ClosedRange
 pub mod ClosedNumbers
 pub mod ClosedRuns

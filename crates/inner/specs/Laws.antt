@@ -23,13 +23,12 @@ use Rattle.days.specs.ClosedYear.{yearLength}
 use Rattle.days.specs.ClosedStarts.{Starts, InYear, label-of}
 use Rattle.days.specs.ClosedJulian as J
 use Rattle.days.specs.ClosedGregorian as G
-use Rattle.days.specs.ClosedVirtual.{spot-gregorian}
 use Rattle.days.specs.ReformationTable.{fits-biased}
 use Rattle.days.specs.ClosedRuns.{Runs, top, julian-runs, gregorian-runs, yearFirst, first-julian, first-gregorian, year-stretch, year-plain}
 use Rattle.inner.specs.declared.DayNumber.{DayNumber}
 use Rattle.inner.specs.declared.DayNumber.the-variants as DayNumber′
 use Rattle.inner.specs.Promise.{YearAndOrdinal, OrdinalDay, DayOfOrdinal, numbered, no-such-day, outside-32}
-use Rattle.inner.specs.Natural.{biasedDay, biasedYear, VirtualPoint, Lowers, within, beyond, OrdinalNumber, off-year, on-year}
+use Rattle.inner.specs.Natural.{biasedDay, biasedYear, Lowers, within, beyond, OrdinalNumber, off-year, on-year}
 
 -- ---- Raised numbers
 
@@ -201,29 +200,6 @@ by-quarters k = record {
 
     short : (4 * k / 1461 % 4 ≡ 0 → ⊥) → 4 * k % 1461 < 1460
     short n = ⊎-elim (λ l. l) (λ g. absurd (n (fourth (4 * k / 1461) (k - 365 * (4 * k / 1461) - 365) (omega arith)))) (lt-or-ge (4 * k % 1461) 1460)
-
--- a point of a cycle is within it and its virtual days
-pub virtual-less : {r p : ℕ} → r < 146_097 → VirtualPoint r p → p < 146_101
-virtual-less {r} h v = ⊎-elim (λ l. omega (arith, v .first-year l)) (λ g. omega (arith, v .later-year g)) (lt-or-ge r 366)
-
--- ---- The virtual leap days
-pub virtual-some : {r p : ℕ} → VirtualPoint r p → 1 ≤ p
-virtual-some {r} v = ⊎-elim (λ h. omega (arith, v .first-year h)) (λ h. omega (arith, v .later-year h)) (lt-or-ge r 366)
-
--- year and ordinal of a biased day, from those of the place in its cycle
-pub virtual-spot : (k : ℕ) {p y o : ℕ} → 16_106_132 ≤ k → VirtualPoint ((k - 16_106_132) % 146_097) p → InYear J.leapAt J.start (p - 1) y o
-    → InYear G.leapAt G.start k (400 * ((k - 16_106_132) / 146_097) + y) o
-virtual-spot k {p} {y} {o} h v s =
-    let r : ℕ = (k - 16_106_132) % 146_097 in
-    spot-gregorian k (p - 1 - r) y o h
-    (record { first = λ a. omega (arith, v .first-year a); later = λ a. rest r ((r - 366) / 36_524) (v .later-year a) })
-    (subst (λ (d : ℕ). InYear J.leapAt J.start d y o) (whole (k - 16_106_132) (v .first-year) (v .later-year)) s)
-  where
-    rest : (r q : ℕ) → p ≡ r + q + 1 → p - 1 - r ≡ q
-    rest r q e = omega arith
-
-    whole : (d : ℕ) → (d % 146_097 < 366 → p ≡ d % 146_097 + 1) → (366 ≤ d % 146_097 → p ≡ d % 146_097 + (d % 146_097 - 366) / 36_524 + 1) → p - 1 ≡ d % 146_097 + (p - 1 - d % 146_097)
-    whole d f g = ⊎-elim (λ h. omega (arith, f h)) (λ h. omega (arith, g h)) (lt-or-ge (d % 146_097) 366)
 
 -- ---- A biased day in 32 bits
 pub lowers-below : {k : ℕ} → k < 782_219_326_294 → Lowers k DayNumber′.Outside32

@@ -1,7 +1,7 @@
 -- What the conversions say of days and years that are biased as naturals. A 32-bit number that was raised by 2147483648 is biased as somewhat more.
 use mathlib.Core.Path.{_≡_}
 use mathlib.Core.Bool.{Bool}
-use Prim.Native.Nat.{ℕ, _+_, _-_, _/_, _≤_, _<_}
+use Prim.Native.Nat.{ℕ, _+_, _-_, _≤_}
 use Rattle.days.specs.DayByDay.{Is32Bit}
 use Rattle.days.specs.BiasedDays.{day, BiasedDay}
 use Rattle.days.specs.ClosedYear.{yearLength}
@@ -23,8 +23,3 @@ pub data Lowers (k : ℕ) : DayNumber → Type 0 where
 pub data OrdinalNumber (leap : Bool) (start o : ℕ) : DayNumber → Type 0 where
   off-year : ((1 ≤ o) × (o ≤ yearLength leap) → ⊥) → OrdinalNumber leap start o DayNumber′.Nothing
   on-year : 1 ≤ o → o ≤ yearLength leap → {d : DayNumber} → Lowers (start + o - 1) d → OrdinalNumber leap start o d
-
--- day r of a cycle, from 1, with the virtual leap days before it
-pub record VirtualPoint (r p : ℕ) : Type 0 where
-  pub first-year : r < 366 → p ≡ r + 1
-  pub later-year : 366 ≤ r → p ≡ r + (r - 366) / 36_524 + 1

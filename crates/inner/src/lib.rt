@@ -9,10 +9,11 @@ ghost use Rattle.days.specs.DayByDay.{julian, gregorian, julianLeap, gregorianL
 ghost use Rattle.days.specs.KnownDays.{NamedDays};
 ghost use Rattle.days.specs.ClosedYear.{yearLength};
 ghost use Rattle.days.specs.ClosedStarts.{InYear};
+ghost use Rattle.days.specs.ClosedCenturies.{WholeParts};
 ghost use Rattle.days.specs.ClosedJulian as J;
 ghost use Rattle.days.specs.ClosedGregorian as G;
 ghost use Rattle.inner.specs.Promise.{YearAndOrdinal, DayOfOrdinal};
-ghost use Rattle.inner.specs.Natural.{biasedDay, biasedYear, VirtualPoint, Lowers, OrdinalNumber};
+ghost use Rattle.inner.specs.Natural.{biasedDay, biasedYear, Lowers, OrdinalNumber};
 use whole::lowered;
 use whole::raised;
 
@@ -22,8 +23,27 @@ pub const LEAST_DAY: u64 = 782_219_326_294;
 // Year -2147483648, as it is biased: a biased year is a multiple of 400 exactly when the year is one.
 const LEAST_YEAR: u64 = 352;
 
-// The biased day on which biased year 0 begins in the Gregorian reckoning, and with it the first cycle of 400 years. In the Julian one it is day 0.
-const FIRST_CYCLE: u64 = 16_106_132;
+// The biased day on which biased year 0 begins in the Gregorian reckoning. In the Julian one it is day 0.
+const YEAR_0: u64 = 16_106_132;
+
+// The rule of the Gregorian calendar, in days. Of four years the last is leap. A century has 25 times four years, and a day less: its last year
+// is common. A cycle has four centuries, and a day more: its last year is leap.
+const DAYS_IN_COMMON_YEAR: u64 = 365;
+
+const DAYS_IN_LEAP_YEAR: u64 = DAYS_IN_COMMON_YEAR + 1;
+
+const DAYS_IN_FOUR_YEARS: u64 = 3 * DAYS_IN_COMMON_YEAR + DAYS_IN_LEAP_YEAR;
+
+const DAYS_IN_CENTURY: u64 = 25 * DAYS_IN_FOUR_YEARS - 1;
+
+const DAYS_IN_CYCLE: u64 = 4 * DAYS_IN_CENTURY + 1;
+
+const YEARS_IN_CENTURY: u64 = 100;
+
+const YEARS_IN_CYCLE: u64 = 4 * YEARS_IN_CENTURY;
+
+// The biased day on which the first cycle begins, with biased year 1.
+const FIRST_CYCLE: u64 = YEAR_0 + DAYS_IN_LEAP_YEAR;
 
 // ---- Days that have names
 
@@ -132,32 +152,42 @@ pub fn julian_place(day: u32) -> RaisedYearDay
     }
 }
 
-// Counted from the first day of a cycle of 400 years, with a virtual leap day at the end of each year that is leap by the Julian rule alone,
-// the Julian rule finds year and ordinal.
+// The rule of the calendar, counted off: whole cycles, whole centuries of the cycle, whole years of the century. The days that are left tell the
+// ordinal.
 pub fn gregorian_place(day: u32) -> RaisedYearDay
     ensures { λ r. ⌜ InYear G.leapAt G.start (biasedDay day) (biasedYear (r .year)) (r .ordinal) ⌝ }
 {
-    // LEAST_DAY less FIRST_CYCLE.
-    let days = day as u64 + 782_203_220_162;
-    let cycles = days / 146_097;
-    let place = decompose_julian(virtual_point(days % 146_097) - 1);
+    let days = day as u64 + LEAST_DAY - FIRST_CYCLE;
+    let cycles = days / DAYS_IN_CYCLE;
+    // Of the four centuries of a cycle the last is a day longer than the others.
+    let centuries = whole_parts(days % DAYS_IN_CYCLE, DAYS_IN_CENTURY);
+    // Of four years the last is a day longer than the others. In its hundredth year a century ends before that day, unless it is the longer one.
+    let years = whole_parts(centuries.rest, DAYS_IN_COMMON_YEAR);
+    let years_before = YEARS_IN_CYCLE * cycles + YEARS_IN_CENTURY * centuries.whole + years.whole;
     RaisedYearDay {
-        year: (400 * cycles + place.year - LEAST_YEAR) as u32,
-        ordinal: place.ordinal as u32,
+        year: (years_before + 1 - LEAST_YEAR) as u32,
+        ordinal: (years.rest + 1) as u32,
     }
 }
 
-// The place of a day in its cycle of 400 years, from 1, with the virtual leap days before it. Their number is the quotient of r - 366 by
-// the days of a common century, truncated towards zero: the first year of a cycle, where r - 366 is negative, has none before it.
-fn virtual_point(r: u64) -> u64
-    requires { ⌜ r < 146_097 ⌝ }
-    ensures { λ p. ⌜ VirtualPoint r p ⌝ }
+// So many whole parts, and so many days of the next.
+struct Parts {
+    whole: u64,
+    rest: u64,
+}
+
+// Parts of so many days, each fourth of which is a day longer. Every part has a quarter of a day beyond its whole days, and a day belongs to the
+// part into which its last quarter falls: so the four quarters come together as the one day more of the fourth.
+fn whole_parts(days: u64, length: u64) -> Parts
+    requires { ⌜ (days < 4_000_000_000) × (0 < length) × (length < 4_000_000_000) ⌝ }
+    ensures { λ p. ⌜ WholeParts length days (p .whole) (p .rest) ⌝ }
 {
-    let floor_and_one = (r + 36_158) / 36_524;
-    if floor_and_one < 1 {
-        return r + 1;
+    let days_in_four = 4 * length + 1;
+    let last_quarter = 4 * days + 3;
+    Parts {
+        whole: last_quarter / days_in_four,
+        rest: last_quarter % days_in_four / 4,
     }
-    r + floor_and_one
 }
 
 struct LongPlace {
@@ -228,7 +258,7 @@ pub fn gregorian_start(year: u32) -> u64
 {
     let y = year as u64 + LEAST_YEAR;
     let centuries = (y + 99) / 100;
-    365 * y + (y + 3) / 4 + (centuries + 3) / 4 + FIRST_CYCLE - centuries
+    365 * y + (y + 3) / 4 + (centuries + 3) / 4 + YEAR_0 - centuries
 }
 
 // A day that is biased as so much more than its number, in 32 bits.
