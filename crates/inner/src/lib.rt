@@ -26,8 +26,8 @@ const LEAST_YEAR: u64 = 352;
 // The biased day on which biased year 0 begins in the Gregorian reckoning. In the Julian one it is day 0.
 const YEAR_0: u64 = 16_106_132;
 
-// The rule of the Gregorian calendar, in days. Of four years the last is leap. A century has 25 times four years, and a day less: its last year
-// is common. A cycle has four centuries, and a day more: its last year is leap.
+// The rule of the Gregorian calendar, in days. Of four years the last is leap: 1461 days. A century has 25 times four years and a day less, since
+// its last year is common: 36524 days. A cycle has four centuries and a day more, since its last year is leap: 146097 days.
 const DAYS_IN_COMMON_YEAR: u64 = 365;
 
 const DAYS_IN_LEAP_YEAR: u64 = DAYS_IN_COMMON_YEAR + 1;
