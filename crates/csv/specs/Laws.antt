@@ -7,8 +7,8 @@ use mathlib.Core.List.{List, [], _∷_, _++_, append-assoc, append-nil}
 use mathlib.Core.Logic.{⊎-elim}
 use native.Mathlib.Nat.{add-zero}
 use native.Mathlib.Omega.{arith}
-use lib.ListN.{length, take, drop, getD, length-append, length-take, take-append-drop, drop-of-length-le}
-use lib.Seq.{drop-cons, take-add, take-at, take-all, length-take-le, drop-drop}
+use lib.ListN.{length, take, drop, getD, length-append, take-append-drop, drop-of-length-le}
+use lib.Seq.{drop-cons, take-add, take-at, take-all, length-take-le}
 use Rattle.whole.specs.Text.{newline}
 use Rattle.whole.specs.Tests.{lt-or-ge}
 use Rattle.csv.specs.declared.Found.{Found}

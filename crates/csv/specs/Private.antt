@@ -13,7 +13,7 @@ use Rattle.csv.specs.declared.Found.{Found}
 use Rattle.csv.specs.declared.Next.{Next}
 use Rattle.csv.specs.declared.Usual.{Usual}
 use Rattle.csv.specs.Grammar.{comma, quote, return, TextData, QuotedByte, NonEscaped, Quoted, Field, Record, LineEnd, longestRecord}
-use Rattle.csv.specs.Contents.{Where, Fields, Begun, Outside, NoLineEnd, Faulty}
+use Rattle.csv.specs.Contents.{Where, Fields, Begun, NoLineEnd, Faulty}
 use Rattle.csv.specs.Promise.{Closes, Open, lineOf}
 
 -- ---- bytes that go on in a field, quoted or not

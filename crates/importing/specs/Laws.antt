@@ -1,6 +1,6 @@
 -- What the proofs need: how a record is written, and that each one takes the text further.
 -- Assumes nothing.
-use Prim.Native.Nat.{ℕ, _+_, _-_, _≤_, _<_, min}
+use Prim.Native.Nat.{ℕ, _+_, _-_, _≤_, _<_}
 use mathlib.Core.Path.{_≡_, refl, sym, _∙_, ap, subst}
 use mathlib.Core.Bool.{Bool}
 use mathlib.Core.List.{List, [], _∷_, _++_}
@@ -12,7 +12,7 @@ use lib.IntN.{pos}
 use Rattle.refusals.specs.Promise.{refusal}
 use Rattle.whole.specs.Text.{tab}
 use Rattle.refusals.specs.declared.Refusal.{Refusal}
-use Rattle.writer.specs.Promise.{put, Writes, Puts}
+use Rattle.writer.specs.Promise.{Writes, Puts}
 use Rattle.writer.specs.Laws.{length-put}
 use Rattle.writer.specs.declared.Written.{Written}
 use Rattle.calendar.specs.declared.Chosen.{Chosen}
@@ -23,8 +23,8 @@ use Rattle.linetext.specs.declared.Line.the-variants as Line′
 use Rattle.listing.specs.Promise.{HeldLine, LastLine}
 use Rattle.listing.specs.Laws.{Wrote, wrote-it, held-short, listed-also}
 use Rattle.csv.specs.declared.Scan.{Scan}
-use Rattle.csv.specs.declared.Scan.the-variants.{Entry, Miscounted, Stops, Undecided}
-use Rattle.csv.specs.Grammar.{comma, quote, NonEscaped, Quoted, Field, Record, LineEnd, longestRecord}
+use Rattle.csv.specs.declared.Scan.the-variants.{Entry, Miscounted, Stops}
+use Rattle.csv.specs.Grammar.{comma, quote, Quoted, Field, Record, LineEnd, longestRecord}
 use Rattle.csv.specs.Promise.{Closes, lineOf, Scans}
 use Rattle.csv.specs.Contents.{Outcome}
 use Rattle.importing.specs.Import.{Imported, AllImported}

@@ -5,7 +5,7 @@ use mathlib.Core.Path.{_≡_, refl, sym, ap, ap₂, subst, _∙_}
 use mathlib.Core.Bool.{Bool}
 use mathlib.Core.List.{List, _++_}
 use native.Mathlib.Omega.{arith}
-use lib.ListN.{length, drop}
+use lib.ListN.{length}
 use lib.IntN.{pos}
 use Rattle.refusals.specs.Promise.{refusal}
 use Rattle.refusals.specs.declared.Refusal.{Refusal}
@@ -21,11 +21,8 @@ use Rattle.linetext.specs.Promise.{LineOut}
 use Rattle.linetext.specs.declared.Line.the-variants as Line′
 use Rattle.linetext.specs.One.{ended-one}
 use Rattle.columns.specs.Columns.{header}
-use Rattle.listing.specs.Promise.{HeldLine}
 use Rattle.listing.specs.One.{listed-one, held-line-one}
 use Rattle.csv.specs.declared.Scan.{Scan}
-use Rattle.csv.specs.declared.Scan.the-variants.{Entry, Miscounted, Stops, Undecided}
-use Rattle.csv.specs.Promise.{Scans}
 use Rattle.csv.specs.One.{scans-one, reads-one}
 use Rattle.csv.specs.Contents.{Outcome}
 use Rattle.importing.specs.declared.Taken.{Taken}

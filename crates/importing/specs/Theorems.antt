@@ -4,13 +4,13 @@
 -- (`ended-gives`). So it does not matter in what parts a file comes: `importrun` says it of a whole run. That a catalogue and an input have one import
 -- is in `One`. Of a record whose fields hold f and g the listing looks up f and reads g (`line-parts`).
 -- Assumes nothing.
-use Prim.Native.Nat.{ℕ, _+_, _-_, _≤_, _<_, min}
+use Prim.Native.Nat.{ℕ, _+_, _-_, _≤_, _<_}
 use mathlib.Core.Path.{_≡_, refl, sym, _∙_, ap, ap₂, subst}
 use mathlib.Core.Bool.{Bool, true, false, true≢false}
 use mathlib.Core.List.{List, [], _∷_, _++_, append-assoc, append-nil}
 use native.Mathlib.Nat.{min-eq-left}
 use native.Mathlib.Omega.{arith}
-use lib.ListN.{length, take, drop, length-append, length-drop}
+use lib.ListN.{length, drop, length-append, length-drop}
 use lib.Seq.{take-at, drop-drop, drop-at, drop-length}
 use lib.IntN.{pos}
 use Rattle.refusals.specs.Promise.{refusal}
@@ -25,7 +25,7 @@ use Rattle.listing.specs.Lines.{Listed, listed}
 use Rattle.listing.specs.Promise.{HeldAnswer, HeldLine}
 use Rattle.listing.specs.Laws.{held-short}
 use Rattle.csv.specs.declared.Scan.the-variants as Scan′
-use Rattle.csv.specs.Grammar.{Field, Record, LineEnd, longestRecord}
+use Rattle.csv.specs.Grammar.{Field, Record, longestRecord}
 use Rattle.csv.specs.Contents.{Where, Begun, NoLineEnd, Faulty, Outcome, entry, refused, outcomeOf, Reads}
 use Rattle.csv.specs.Promise.{Closes, lineOf, Scans}
 use Rattle.csv.specs.One.{reads-one}
@@ -34,7 +34,7 @@ use Rattle.importing.specs.declared.Taken.{Taken}
 use Rattle.importing.specs.declared.Stopped.{Stopped}
 use Rattle.importing.specs.Import.{Imported, AllImported}
 use Rattle.importing.specs.Promise.{mostPlace, placeOf, ImportState, importState, TakesRecord, Imports}
-use Rattle.importing.specs.Laws.{entry-short, taken-on, taken-long}
+use Rattle.importing.specs.Laws.{entry-short, taken-on}
 
 -- ---- the line of two fields
 

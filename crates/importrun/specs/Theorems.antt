@@ -10,15 +10,13 @@ use mathlib.Core.List.{List, [], _∷_, _++_, append-assoc, append-nil}
 use native.Mathlib.Nat.{zero-add, add-zero, min-eq-left}
 use native.Mathlib.Omega.{arith}
 use lib.ListN.{length, take, drop, length-append, length-take, length-drop, take-append-drop, drop-of-length-le}
-use lib.Seq.{take-at, length-take-le, take-take}
+use lib.Seq.{take-at}
 use lib.IntN.{pos}
 use Rattle.writer.specs.Promise.{put}
 use Rattle.writer.specs.Laws.{length-put}
 use Rattle.columns.specs.Columns.{header}
-use Rattle.refusals.specs.declared.Refusal.{Refusal}
 use Rattle.nametable.specs.Promise.{Memory}
 use Rattle.catalogue.specs.Promise.{NamesIn}
-use Rattle.catalogue.specs.Catalogue.{refusedBy, Means}
 use Rattle.catalogue.specs.Theorems.{named-with}
 use Rattle.cataloguerun.specs.declared.CatalogueRun.{CatalogueRun}
 use Rattle.cataloguerun.specs.Theorems.{ComesTo, ready, refused}
@@ -27,9 +25,8 @@ use Rattle.filter.specs.declared.Phase.the-variants.{Reading, Midway, Closing, 
 use Rattle.filter.specs.Promise.{goesOn, outputOf, roomOf, eventOf, eventIn, blockSize}
 use Rattle.listrun.specs.Promise as List′
 use Rattle.importing.specs.declared.Stopped.{Stopped}
-use Rattle.importing.specs.declared.Stopped.the-variants as Stopped′
-use Rattle.importing.specs.Promise.{mostPlace, placeOf, ImportState, importState, Imports}
-use Rattle.importing.specs.Import.{AllImported, Import, imported}
+use Rattle.importing.specs.Promise.{mostPlace, placeOf, importState}
+use Rattle.importing.specs.Import.{Import, imported}
 use Rattle.importing.specs.Import as Import′
 use Rattle.importing.specs.Laws.{all-also}
 use Rattle.importing.specs.One.{import-one}

@@ -1,7 +1,6 @@
 -- `csv::run_end` meets its promise. The loop's invariant is `Along`; the measure is what is left of the bytes.
 -- Assumes nothing.
 use Prim.Native.Nat.{_-_}
-use lib.ListN.{length}
 use native.Mathlib.Omega.{arith}
 use Rattle.csv.specs.Private.{Along}
 use Rattle.csv.specs.Laws.{tells-yes, tells-no, along-start, along-on, stopped-byte, stopped-end}

@@ -3,7 +3,7 @@
 use Prim.Native.Nat.{_-_}
 use native.Mathlib.Omega.{arith}
 use Rattle.writer.specs.Laws.{Copying, copying-start}
-use Rattle.importrun.specs.Laws.{part, keeps-none, part-long, keeping-on, keeping-done}
+use Rattle.importrun.specs.Laws.{part, keeps-none, keeping-on, keeping-done}
 use borrow.Author.Needs.{needs}
 use Rattle.importrun.proofs.keep.Statement.{statement}
 use Rattle.importrun.proofs.keep.Tie as tie

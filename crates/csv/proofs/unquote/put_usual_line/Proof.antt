@@ -5,7 +5,6 @@ use lib.Seq.{length-take-le}
 use mathlib.Core.Path.{sym}
 use native.Mathlib.Omega.{arith}
 use Rattle.csv.specs.UnquoteLaws.{back-room, line-long, puts-line}
-use borrow.Author.Needs.{needs}
 use Rattle.csv.proofs.unquote.put_usual_line.Statement.{statement}
 use Rattle.csv.proofs.unquote.put_usual_line.Tie as tie
 
