@@ -208,11 +208,10 @@ def number(s, at, low, high, signed):
     if not m:
         raise Fault(9, at, s[at])
     value = 0
-    for b in m.group():
-        value = 10 * value + b - 48
-    value = -value if negative else value
-    if not low <= value <= high:
-        raise Fault(11, first, 0)
+    for end in range(m.start() + 1, m.end() + 1):
+        value = -int(s[at:end]) if negative else int(s[at:end])
+        if not low <= value <= high:
+            raise Fault(28 if value < low else 11, end - 1, 0)
     return value, m.end()
 
 

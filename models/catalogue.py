@@ -23,7 +23,10 @@ def read_line(line, place, houses):
         return refused(22, place)
     name, r = form.group(1), int(form.group(2))
     if not LOW <= r <= HIGH:
-        return refused(11, place)
+        first = form.end(1) + 1
+        after_sign = first + (r < 0)
+        left = next(end for end in range(after_sign + 1, len(line) + 1) if not LOW <= int(line[first:end]) <= HIGH)
+        return refused(28 if r < LOW else 11, place, left - 1)
     if name in NAMES or name in houses:
         return refused(23, place)
     if place > MOST_LINES:

@@ -106,7 +106,7 @@ def reformations():
             yield ended(line(b'PASSAU', r))
     for r in [0, 5, -5, -R, 2**32, -2**32, 2**32 + R, R - 2**32, 2**63, -2**63, 2**64 + R, R - 2**64, 2**64 - 1, 10**19, 10**20 + R, 10**40, -10**40]:
         yield ended(line(b'PASSAU', r))
-    for text in [b'-0', b'-000', b'000', b'0002299161', b'-0002299161', b'00000000000000000000000002299161', b'-2147483649', b'-02147483648', b'002147483648', b'99999999999', b'-99999999999']:
+    for text in [b'-0', b'-000', b'000', b'0002299161', b'-0002299161', b'00000000000000000000000002299161', b'-2147483649', b'-02147483648', b'002147483648', b'-00002147483649', b'21474836470', b'3000000000', b'99999999999', b'-99999999999']:
         yield ended(line(b'PASSAU', text))
         yield ended(GOOD, line(b'PASSAU', text), OTHER)
 
@@ -116,13 +116,13 @@ def reformations():
 def order():
     """Lines at which several things are at fault, and files with several lines at fault."""
     names = [b'FULDA', b'JULIAN', b'TRIER', b'Fulda', name_of(MOST_NAME + 1)]
-    numbers = [b'2299161', b'5', b'-2147483647', b'99999999999', b'99999999999x', b'']
+    numbers = [b'2299161', b'5', b'-2147483647', b'99999999999', b'-99999999999', b'99999999999x', b'']
     for name in names:
         for number in numbers:
             yield ended(GOOD, line(name, number))
     for name, number in [(b'JULIAN', 5), (b'JULIAN', 99999999999), (b'JULIAN', b'5x'), (b'A', b'99999999999x')]:
         yield ended(line(name, number))
-    at_fault = [line(b'FULDA', 5), line(b'FULDA', -2147483647), line(b'SPAIN'), line(b'FULDA', 2**31), b'malformed']
+    at_fault = [line(b'FULDA', 5), line(b'FULDA', -2147483647), line(b'SPAIN'), line(b'FULDA', 2**31), line(b'FULDA', -2**31 - 1), b'malformed']
     for first in at_fault:
         for second in at_fault:
             if first != second:

@@ -239,9 +239,14 @@ fn text_refusal(cal: Calendar, text: &str, e: ParseDateError) -> Refusal {
         EmptyInt => Refusal { number: 8, place: text.len(), value: 0 },
         UnexpectedEnd { .. } => Refusal { number: 13, place: text.len(), value: 0 },
         ParseInt(ref int) => {
-            let number = if *int.kind() == IntErrorKind::InvalidDigit { 10 } else { 11 };
             let end = shortest(cal, text, &e);
-            Refusal { number, place: field_start(text, end), value: 0 }
+            let (number, place) = match int.kind() {
+                IntErrorKind::InvalidDigit => (10, field_start(text, end)),
+                IntErrorKind::PosOverflow => (11, end - 1),
+                IntErrorKind::NegOverflow => (28, end - 1),
+                kind => panic!("the crate's numbers are refused in three ways, and not as {kind:?}"),
+            };
+            Refusal { number, place, value: 0 }
         }
     }
 }

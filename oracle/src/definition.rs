@@ -2,6 +2,7 @@
 //! has its Julian label, from there on its Gregorian one; a year or a month is the days that bear it. Years are counted from an anchor with
 //! the leap rules alone, in 64 bits. The tests hold these counts against labels that go from each day to the next.
 use crate::protocol::{Cal, Library, Or, Record, Refusal, Reformation};
+use std::ops::{Range, RangeInclusive};
 
 /// Year, month and day, which are compared in this order.
 pub type Label = (i64, u32, u32);
@@ -402,10 +403,18 @@ pub enum Text {
 }
 
 /// Digits from a place on, and the place after them. The value stops growing above 64 bits.
-fn digits(text: &[u8], at: usize) -> Option<(u64, usize)> {
+/// The place after the digits that stand at a place, if any do.
+fn digits(text: &[u8], at: usize) -> Option<usize> {
     let n = text[at..].iter().take_while(|b| b.is_ascii_digit()).count();
-    let value = text[at..at + n].iter().fold(0u64, |v, b| v.saturating_mul(10).saturating_add((b - b'0').into()));
-    (n > 0).then_some((value, at + n))
+    (n > 0).then_some(at + n)
+}
+
+/// The number that digits write, below 0 where `sign` is; or 11 or 28, at the first digit with which it is outside its range.
+fn in_range(text: &[u8], digits: Range<usize>, sign: i64, range: RangeInclusive<i64>) -> Or<i64> {
+    digits.into_iter().try_fold(0, |value, place| {
+        let value = value * 10 + sign * i64::from(text[place] - b'0');
+        range.contains(&value).then_some(value).ok_or(fault(if sign < 0 { 28 } else { 11 }, text, place, false))
+    })
 }
 
 fn fault(number: u32, text: &[u8], place: usize, value: bool) -> Refusal {
@@ -424,14 +433,15 @@ fn no_number(text: &[u8], at: usize) -> Refusal {
 fn signed(text: &[u8]) -> Or<(i32, usize)> {
     let sign = text.first().filter(|b| b"+-".contains(b));
     let none = if sign.is_some() { fault(10, text, 0, false) } else { no_number(text, 0) };
-    let (value, next) = digits(text, sign.is_some() as usize).ok_or(none)?;
-    let whole = if sign == Some(&b'-') { -i128::from(value) } else { i128::from(value) };
-    Ok((i32::try_from(whole).map_err(|_| fault(11, text, 0, false))?, next))
+    let first = sign.is_some() as usize;
+    let next = digits(text, first).ok_or(none)?;
+    let value = in_range(text, first..next, if sign == Some(&b'-') { -1 } else { 1 }, i32::MIN.into()..=i32::MAX.into())?;
+    Ok((value as i32, next))
 }
 
 fn unsigned(text: &[u8], at: usize) -> Or<(u32, usize)> {
-    let (value, next) = digits(text, at).ok_or_else(|| no_number(text, at))?;
-    Ok((u32::try_from(value).map_err(|_| fault(11, text, at, false))?, next))
+    let next = digits(text, at).ok_or_else(|| no_number(text, at))?;
+    Ok((in_range(text, at..next, 1, 0..=u32::MAX.into())? as u32, next))
 }
 
 fn dash(text: &[u8], at: usize) -> Or<usize> {

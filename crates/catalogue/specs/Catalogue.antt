@@ -20,6 +20,7 @@ use Rattle.textlines.specs.Lines.{Lines}
 use Rattle.nametable.specs.Limits.{mostLines}
 use Rattle.nametable.specs.Houses.{House, house, nameAt, lineAt}
 use Rattle.houseline.specs.Form.{Form}
+use Rattle.houseline.specs.Promise.{LeavesAfter}
 
 -- ---- a line: the calendar that it holds, or its refusal. n is its number, from 1
 
@@ -43,9 +44,11 @@ pub data OfReformation (n : ℕ) (s : List ℕ) (r : ℤ) : LineMeaning → Type
 abbrev pub OfName : (List ℕ → Type 0) → (List ℕ → Type 0) → ℕ → List ℕ → ℤ → LineMeaning → Type 0
 OfName Taken Free n s r = Row (Taken s) (Free s) (refused 23 n) (If (mostLines < n) (refused 24 n) (OfReformation n s r))
 
--- 11 before that, of a line with the name s and the number z
+-- 11 and 28 before that, of a line with the name s and the number z: where z is outside 32 bits, with the place at which it leaves them, counted in the
+-- line, as the value
 pub data OfForm (Taken Free : List ℕ → Type 0) (n : ℕ) (l : List ℕ) : LineMeaning → Type 0 where
-  of-form : {s : List ℕ} {z : ℤ} {e : LineMeaning} → Form l s z → Unless (Is32Bit z) (refused 11 n) (OfName Taken Free n s z) e → OfForm Taken Free n l e
+  leaves : {s : List ℕ} {z : ℤ} {f : Refusal} → Form l s z → LeavesAfter l (length s) f → OfForm Taken Free n l (refuses (refusal (f .number) n (pos (f .place))))
+  of-form : {s : List ℕ} {z : ℤ} {e : LineMeaning} → Form l s z → Is32Bit z → OfName Taken Free n s z e → OfForm Taken Free n l e
 
 -- and 22 before all
 abbrev pub Formed : List ℕ → Type 0

@@ -1,6 +1,6 @@
 -- Why the functions meet their promises.
 -- Assumes nothing.
-use Prim.Native.Nat.{ℕ, _+_, _≤_, _<_}
+use Prim.Native.Nat.{ℕ, _+_, _≤_, _<_, _^_}
 use mathlib.Core.Path.{_≡_, refl, sym, _∙_, ap, subst}
 use mathlib.Core.List.{List, _∷_}
 use mathlib.Core.Bool.{Bool}
@@ -31,11 +31,12 @@ use Rattle.nametable.specs.Houses.{House, house}
 use Rattle.nametable.specs.declared.Found as T
 use Rattle.whole.specs.Text.{tab}
 use Rattle.houseline.specs.Form.{Form, form}
+use Rattle.houseline.specs.Laws.{leaves-place}
 use Rattle.houseline.specs.Promise.{Reads, reads, outside, malformed}
 use Rattle.houseline.specs.declared.HouseLine.{HouseLine}
 use Rattle.bytesearch.specs.One.{never}
 use Rattle.catalogue.specs.declared.Added.{Added}
-use Rattle.catalogue.specs.Catalogue.{LineMeaning, holds, Formed, OfName, of-form, OfReformation, of-reformation}
+use Rattle.catalogue.specs.Catalogue.{LineMeaning, holds, Formed, OfName, leaves, of-form, OfReformation, of-reformation}
 use Rattle.catalogue.specs.Promise.{TakenIn, FreeIn, Result, left-as, added, AddsHouse, adds-house, Adds, made-up, adds, HouseCalendar, NamesIn, unknown}
 
 -- ---- a name that is built in, or not
@@ -120,6 +121,10 @@ house-fits {l} r =
     let (t, a, b) = form-front f in
     (subst (λ (k : ℕ). k ≤ length l) (sym e) a, subst (λ (k : ℕ). k ≤ mostName) (sym e) b)
 
+-- the place at which a number leaves 32 bits is in the line
+pub place-fits : {l : List ℕ} {f : Refusal} → Reads l (HouseLine.Outside f) → f .place < 2 ^ 32
+place-fits (outside g k) = omega (arith, leaves-place g k)
+
 module _ {m : Memory} {n : ℕ} {l : List ℕ} (h : n ≤ mostLines) where
   pub line-malformed : {f : Refusal} → Reads l HouseLine.Malformed → f ≡ refusal 22 (n + 1) (pos 0) → Adds m n l m (Added.Refused f)
   line-malformed r e = subst (λ (x : Refusal). Adds m n l m (Added.Refused x)) (sym e) (adds h (refuses (none refl r)) left-as)
@@ -129,19 +134,17 @@ module _ {m : Memory} {n : ℕ} {l : List ℕ} (h : n ≤ mostLines) where
       none i (outside f k) = let z : _≡_ {A = ℕ} 0 1 = cc in absurd (never z)
       none i (malformed o) = λ (s, z, f). o s z f
 
-  pub line-outside : {f : Refusal} → Reads l HouseLine.Outside → f ≡ refusal 11 (n + 1) (pos 0) → Adds m n l m (Added.Refused f)
-  line-outside r e = subst (λ (x : Refusal). Adds m n l m (Added.Refused x)) (sym e) (by refl r)
+  pub line-outside : {f g : Refusal} → Reads l (HouseLine.Outside f) → g ≡ refusal (f .number) (n + 1) (pos (f .place)) → Adds m n l m (Added.Refused g)
+  line-outside {f} r e = subst (λ (x : Refusal). Adds m n l m (Added.Refused x)) (sym e) (by r)
     where
-      by : {a : HouseLine} → a ≡ HouseLine.Outside → Reads l a → Adds m n l m (Added.Refused (refusal 11 (n + 1) (pos 0)))
-      by i (reads f k) = let z : _≡_ {A = ℕ} 0 1 = cc in absurd (never z)
-      by i (outside {name} {z} f k) = adds h (passes (name, z, f) (of-form f (refuses k))) left-as
-      by i (malformed o) = let z : _≡_ {A = ℕ} 0 1 = cc in absurd (never z)
+      by : {f : Refusal} → Reads l (HouseLine.Outside f) → Adds m n l m (Added.Refused (refusal (f .number) (n + 1) (pos (f .place))))
+      by (outside {name} {z} g k) = adds h (passes (name, z, g) (leaves g k)) left-as
 
   pub line-added : {end : ℕ} {z : ℤ} {m′ : Memory} {a : Added} → Reads l (HouseLine.House end z) → AddsHouse m n (take end l) (toZ w32 (ofZ w32 z)) m′ a → Adds m n l m′ a
   line-added {end} {z} r (adds-house {e = e} o t) =
       let (s, d, f, k) = reads-form refl r in
       let q : take end l ≡ s = ap (λ (j : ℕ). take j l) d ∙ form-front f .0 in
-      adds h (passes (s, z, f) (of-form f (passes k (subst (λ (x : ℤ). OfName (TakenIn m) (FreeIn m) (n + 1) s x e) (toZ-ofZ k) (subst (λ (x : List ℕ). OfName (TakenIn m) (FreeIn m) (n + 1) x (toZ w32 (ofZ w32 z)) e) q o))))) t
+      adds h (passes (s, z, f) (of-form f k (subst (λ (x : ℤ). OfName (TakenIn m) (FreeIn m) (n + 1) s x e) (toZ-ofZ k) (subst (λ (x : List ℕ). OfName (TakenIn m) (FreeIn m) (n + 1) x (toZ w32 (ofZ w32 z)) e) q o)))) t
 
 pub unknown-in : {m : Memory} {s : List ℕ} {f : Refusal} → ¬ Known s → Finds m s T.Found.Nowhere → f ≡ refusal 19 0 (pos 0) → NamesIn m s (Chosen′.Refused f)
 unknown-in {m} {s} n w e = subst (λ (x : Refusal). NamesIn m s (Chosen′.Refused x)) (sym e) (unknown n w)

@@ -6,11 +6,12 @@ use mathlib.Core.List.{List, [], _∷_, _++_, append-assoc, append-nil}
 use mathlib.Core.Logic.{inl, inr}
 use native.Mathlib.Omega.{arith}
 use lib.ListN.{length}
-use lib.IntN.{ℤ}
+use lib.IntN.{ℤ, pos}
 use Rattle.days.specs.DayByDay.{Is32Bit}
 use Rattle.days.specs.ReformationTable.{judged-one}
 use Rattle.refusals.specs.declared.Refusal.{Refusal}
-use Rattle.calendar.specs.Rows.{Row, refuses, passes}
+use Rattle.refusals.specs.Promise.{refusal}
+use Rattle.calendar.specs.Rows.{refuses, passes}
 use Rattle.calendar.specs.RowLaws.{One, row-one, unless-one, if-one, answers-one}
 use Rattle.ncal.specs.Promise.{of-row}
 use Rattle.ncal.specs.Theorems.{named-row}
@@ -22,10 +23,11 @@ use Rattle.nametable.specs.Promise.{Memory, memory, entered, linked}
 use Rattle.nametable.specs.Houses.{House, house}
 use Rattle.nametable.specs.One.{finds-one}
 use Rattle.nametable.specs.declared.Found.{Found}
-use Rattle.houseline.specs.One.{form-one}
+use Rattle.houseline.specs.Laws.{fits-leaves}
+use Rattle.houseline.specs.One.{form-one, leaves-same}
 use Rattle.catalogue.specs.declared.Added.{Added}
 use Rattle.catalogue.specs.Catalogue as C
-use Rattle.catalogue.specs.Catalogue.{LineMeaning, holds, judgedIs, OfReformation, of-reformation, OfName, OfForm, of-form, OfLine, LineMeans, Hold, Meaning, catalogue, refusedBy, Means, all-hold, first-refused}
+use Rattle.catalogue.specs.Catalogue.{LineMeaning, holds, judgedIs, OfReformation, of-reformation, OfName, OfForm, leaves, of-form, OfLine, LineMeans, Hold, Meaning, catalogue, refusedBy, Means, all-hold, first-refused}
 use Rattle.catalogue.specs.Promise as R
 use Rattle.catalogue.specs.Promise.{TakenIn, FreeIn, Result, left-as, added, Adds, made-up, adds, HouseCalendar, NamesIn, held}
 use Rattle.bytesearch.specs.One.{never}
@@ -40,11 +42,12 @@ module _ {T F : List ℕ → Type 0} (apart : (s : List ℕ) → T s → F s →
   of-name-one s r = row-one (apart s) (λ f. if-one (λ k. of-reformation-one n s r))
 
   of-form-one : (l : List ℕ) → One (OfForm T F n l)
-  of-form-one l a b (of-form {s} {z} f p) (of-form {s = t} {z = y} g q) =
-      let (i, j) = form-one f g in
-      unless-one (λ k. of-name-one s z) a b p
-      (subst (λ (x : ℤ). Row (¬ Is32Bit x) (Is32Bit x) (C.refused 11 n) (OfName T F n s x) b) (sym j)
-      (subst (λ (x : List ℕ). Row (¬ Is32Bit y) (Is32Bit y) (C.refused 11 n) (OfName T F n x y) b) (sym i) q))
+  of-form-one l a b (leaves {f = f} p h) (leaves {f = g} q k) = ap (λ (x : Refusal). C.refuses (refusal (x .number) n (pos (x .place)))) (leaves-same l (form-one p q .0) h k)
+  of-form-one l a b (leaves p h) (of-form q k o) = absurd (fits-leaves p (subst Is32Bit (form-one q p .1) k) h)
+  of-form-one l a b (of-form p h o) (leaves q k) = absurd (fits-leaves q (subst Is32Bit (form-one p q .1) h) k)
+  of-form-one l a b (of-form {s} {z} p h o) (of-form {s = t} {z = y} q k v) =
+      let (i, j) = form-one p q in
+      of-name-one s z a b o (subst (λ (x : ℤ). OfName T F n s x b) (sym j) (subst (λ (x : List ℕ). OfName T F n x y b) (sym i) v))
 
   of-line-one : (l : List ℕ) → One (OfLine T F n l)
   of-line-one l = unless-one (λ f. of-form-one l)

@@ -37,10 +37,11 @@ use Rattle.nametable.specs.Holds.{Holds, Has, has, has-not}
 use Rattle.nametable.specs.Theorems.{finds-has, enter-holds}
 use Rattle.nametable.specs.declared.Found.{Found}
 use Rattle.houseline.specs.Form.{Form, form, Name}
-use Rattle.houseline.specs.Theorems.{Decided, form-or-not, fits-or-not}
+use Rattle.houseline.specs.Theorems.{Decided, form-or-not}
+use Rattle.houseline.specs.Laws.{fits-or-leaves}
 use Rattle.catalogue.specs.declared.Added.{Added}
 use Rattle.catalogue.specs.Catalogue as C
-use Rattle.catalogue.specs.Catalogue.{LineMeaning, holds, OfReformation, of-reformation, OfName, OfForm, of-form, OfLine, Named, Taken, LineMeans, Hold, Meaning, catalogue, refusedBy, Means, all-hold, first-refused, NamesWith, of-house}
+use Rattle.catalogue.specs.Catalogue.{LineMeaning, holds, OfReformation, of-reformation, OfName, OfForm, leaves, of-form, OfLine, Named, Taken, LineMeans, Hold, Meaning, catalogue, refusedBy, Means, all-hold, first-refused, NamesWith, of-house}
 use Rattle.catalogue.specs.Promise as R
 use Rattle.catalogue.specs.Promise.{TakenIn, FreeIn, Result, left-as, added, Adds, made-up, adds, HouseCalendar, NamesIn, held}
 use Rattle.bytesearch.specs.One.{never}
@@ -71,8 +72,8 @@ module _ (T F : List ℕ → Type 0) (n : ℕ) (l : List ℕ) (h : House) where
       not-over k = ⊎-elim (λ i. absurd (k i)) (λ i. i) (lt-or-ge mostLines n)
 
   form-good : {e : LineMeaning} → e ≡ holds h → OfForm T F n l e → Good n F h
-  form-good e (of-form f (refuses k)) = let z : _≡_ {A = ℕ} 0 1 = cc in absurd (never z)
-  form-good e (of-form f (passes k o)) = name-good e (name-of f) o
+  form-good e (leaves f k) = let z : _≡_ {A = ℕ} 0 1 = cc in absurd (never z)
+  form-good e (of-form f k o) = name-good e (name-of f) o
     where
       name-of : {l s : List ℕ} {z : ℤ} → Form l s z → Name s
       name-of (form w v i) = w
@@ -110,8 +111,8 @@ module _ {T F T′ F′ : List ℕ → Type 0} (t : (s : List ℕ) → T s → T
 
   line-map : {n : ℕ} {l : List ℕ} {e : LineMeaning} → OfLine T F n l e → OfLine T′ F′ n l e
   line-map (refuses k) = refuses k
-  line-map (passes k (of-form w (refuses i))) = passes k (of-form w (refuses i))
-  line-map (passes k (of-form w (passes i o))) = passes k (of-form w (passes i (name-map o)))
+  line-map (passes k (leaves w i)) = passes k (leaves w i)
+  line-map (passes k (of-form w i o)) = passes k (of-form w i (name-map o))
 
 -- ---- a line added to memory that holds a list
 
@@ -325,14 +326,14 @@ line-some hs l = ⊎-elim (λ (s, z, f). by s z f) (λ n. (_, refuses (λ (s, z,
     by : (s : List ℕ) (z : ℤ) → Form l s z → (e : LineMeaning) × LineMeans hs l e
     by s z f = ⊎-elim
         (λ i. ⊎-elim
-        (λ t. (_, passes (s, z, f) (of-form f (passes i (refuses t)))))
+        (λ t. (_, passes (s, z, f) (of-form f i (refuses t))))
         (λ t. ⊎-elim
-        (λ o. (_, passes (s, z, f) (of-form f (passes i (passes t (refuses o))))))
-        (λ o. let (x, j) = judged-some z i in (_, passes (s, z, f) (of-form f (passes i (passes t (passes (under o) (of-reformation j)))))))
+        (λ o. (_, passes (s, z, f) (of-form f i (passes t (refuses o)))))
+        (λ o. let (x, j) = judged-some z i in (_, passes (s, z, f) (of-form f i (passes t (passes (under o) (of-reformation j))))))
         (lt-or-ge mostLines (length hs + 1)))
         (taken-or-not hs s))
-        (λ i. (_, passes (s, z, f) (of-form f (refuses i))))
-        (fits-or-not z)
+        (λ (g, k). (_, passes (s, z, f) (leaves f k)))
+        (fits-or-leaves f)
       where
         under : length hs + 1 ≤ mostLines → ¬ (mostLines < length hs + 1)
         under h k = omega arith

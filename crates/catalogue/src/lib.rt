@@ -2,8 +2,9 @@
 // of the memory and any count of lines.
 // For users: all that is public.
 
-ghost use Prim.Native.Nat.{_≤_};
+ghost use Prim.Native.Nat.{_≤_, _<_, _^_};
 ghost use mathlib.Core.Path.{_≡_};
+ghost use lib.IntN.{pos};
 ghost use lib.ListN.{length, take};
 ghost use Rattle.refusals.specs.Promise.{refusal};
 ghost use Rattle.nametable.specs.Limits.{mostLines, mostName};
@@ -63,6 +64,14 @@ fn enter_front(
     nametable::enter(names, links, k, &line[..end], r)
 }
 
+// 11 or 28, of line n: the place in the line, at which its number leaves 32 bits, is the value.
+fn refused_number(n: usize, f: Refusal) -> Refusal
+    requires { ⌜ f .place < 2 ^ 32 ⌝ }
+    ensures { λ r. ⌜ r ≡ refusal (f .number) n (pos (f .place)) ⌝ }
+{
+    refusal_at(f.number, n, f.place as u32)
+}
+
 // 1 or 2, of line n.
 fn refused_reformation(number: u32, n: usize, r: i32) -> Refusal
     ensures { λ f. ⌜ f ≡ refusal number n r ⌝ }
@@ -111,7 +120,7 @@ pub fn add_line(names: &mut Names, links: &mut Links, count: usize, line: &[u8])
     }
     match houseline::read_line(line) {
         HouseLine::Malformed => Added::Refused(refusal_at(22, count + 1, 0)),
-        HouseLine::Outside => Added::Refused(refusal_at(11, count + 1, 0)),
+        HouseLine::Outside(f) => Added::Refused(refused_number(count + 1, f)),
         HouseLine::House(end, r) => add_house(names, links, count, line, end, r),
     }
 }

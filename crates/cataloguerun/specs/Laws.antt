@@ -80,16 +80,17 @@ unfolding wordsOf bytes
 words-short n =
     either _ _ (eqb n 22) (omega arith)
     (either _ _ (eqb n 11) (omega arith)
+    (either _ _ (eqb n 28) (omega arith)
     (either _ _ (eqb n 23) (omega arith)
     (either _ _ (eqb n 24) (omega arith)
-    (either _ _ (eqb n 1) (omega arith) (either _ _ (eqb n 2) (omega arith) (omega arith))))))
+    (either _ _ (eqb n 1) (omega arith) (either _ _ (eqb n 2) (omega arith) (omega arith)))))))
 
 other-number : (n k : ℕ) → ¬ (n ≡ k) → eqb n k ≡ false
 other-number n k h = ⊎-elim (λ e. absurd (h (eqb-true n k e))) (λ e. e) (true-or-false (eqb n k))
 
-pub words-made-up : (n : ℕ) → ¬ (n ≡ 22) → ¬ (n ≡ 11) → ¬ (n ≡ 23) → ¬ (n ≡ 24) → ¬ (n ≡ 1) → ¬ (n ≡ 2) → wordsOf n ≡ bytes ": the state was made up (16)\n"
+pub words-made-up : (n : ℕ) → ¬ (n ≡ 22) → ¬ (n ≡ 11) → ¬ (n ≡ 28) → ¬ (n ≡ 23) → ¬ (n ≡ 24) → ¬ (n ≡ 1) → ¬ (n ≡ 2) → wordsOf n ≡ bytes ": the state was made up (16)\n"
 unfolding wordsOf
-words-made-up n a b c d e f = rw (other-number n 22 a, other-number n 11 b, other-number n 23 c, other-number n 24 d, other-number n 1 e, other-number n 2 f) refl
+words-made-up n a b c d e f g = rw (other-number n 22 a, other-number n 11 b, other-number n 28 c, other-number n 23 d, other-number n 24 e, other-number n 1 f, other-number n 2 g) refl
 
 -- the three parts of the message, one after another
 data Ending (number place : ℕ) : List ℕ → Type 0 where

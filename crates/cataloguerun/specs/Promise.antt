@@ -66,12 +66,13 @@ refusedAt = bytes "catalogue: refused at line "
 unfoldable pub wordsOf : ℕ → List ℕ
 wordsOf n =
     cond (eqb n 22) (bytes ": not a name, a tab and a day number (22)\n")
-    (cond (eqb n 11) (bytes ": the day number does not fit 32 bits (11)\n")
+    (cond (eqb n 11) (bytes ": the day number is above 2147483647 (11)\n")
+    (cond (eqb n 28) (bytes ": the day number is below -2147483648 (28)\n")
     (cond (eqb n 23) (bytes ": the name is taken (23)\n")
     (cond (eqb n 24) (bytes ": there are too many lines (24)\n")
     (cond (eqb n 1) (bytes ": no calendar can switch on that day (1)\n")
     (cond (eqb n 2) (bytes ": the dates around that day do not fit 32 bits (2)\n")
-    (bytes ": the state was made up (16)\n"))))))
+    (bytes ": the state was made up (16)\n")))))))
 
 -- the message for a refusal with this number at this line
 pub data Reason (number place : ℕ) : List ℕ → Type 0 where

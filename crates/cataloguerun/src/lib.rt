@@ -182,7 +182,9 @@ fn put_decimal(out: &mut [u8], at: usize, n: usize) -> usize
 
 const MALFORMED: [u8; 42] = *b": not a name, a tab and a day number (22)\n";
 
-const TOO_LARGE: [u8; 43] = *b": the day number does not fit 32 bits (11)\n";
+const ABOVE: [u8; 42] = *b": the day number is above 2147483647 (11)\n";
+
+const BELOW: [u8; 43] = *b": the day number is below -2147483648 (28)\n";
 
 const TAKEN: [u8; 25] = *b": the name is taken (23)\n";
 
@@ -203,7 +205,10 @@ fn put_words(out: &mut [u8], at: usize, number: u32) -> usize
         return put_text(out, at, &MALFORMED);
     }
     if number == 11 {
-        return put_text(out, at, &TOO_LARGE);
+        return put_text(out, at, &ABOVE);
+    }
+    if number == 28 {
+        return put_text(out, at, &BELOW);
     }
     if number == 23 {
         return put_text(out, at, &TAKEN);

@@ -33,8 +33,8 @@ pub record Known : Type 0 where
   pub a-sign : ReadDate (from-2023 (plus ∷ 53 ∷ [])) (Text.Refused (refusal 9 5 (pos 43)))
   -- `--5` 10
   pub two-dashes : ReadDate (dash ∷ dash ∷ 53 ∷ []) (Text.Refused (refusal 10 0 (pos 0)))
-  -- `2147483648-1` 11
-  pub too-large : ReadDate (50 ∷ 49 ∷ 52 ∷ 55 ∷ 52 ∷ 56 ∷ 51 ∷ 54 ∷ 52 ∷ 56 ∷ dash ∷ 49 ∷ []) (Text.Refused (refusal 11 0 (pos 0)))
+  -- `2147483648-1` 11, at the last digit of the year
+  pub too-large : ReadDate (50 ∷ 49 ∷ 52 ∷ 55 ∷ 52 ∷ 56 ∷ 51 ∷ 54 ∷ 52 ∷ 56 ∷ dash ∷ 49 ∷ []) (Text.Refused (refusal 11 9 (pos 0)))
   -- `-0-1-1` year 0
   pub year-zero : ReadDate (dash ∷ 48 ∷ dash ∷ 49 ∷ dash ∷ 49 ∷ []) (Text.Ymd (pos 0) 1 1 5)
 

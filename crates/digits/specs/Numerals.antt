@@ -1,10 +1,10 @@
 -- Digits in text, and the numbers that they write. Nothing here reads: each rule says of what parts the bytes are put together. A byte is any number
 -- below 256.
 -- Assumes nothing.
-use Prim.Native.Nat.{ℕ, _-_, _*_, _+_, _≤_, _<_}
+use Prim.Native.Nat.{ℕ, suc, _-_, _*_, _+_, _≤_, _<_}
 use mathlib.Core.Path.{_≡_}
 use mathlib.Core.List.{List, [], _∷_}
-use lib.ListN.{length}
+use lib.ListN.{length, take}
 
 -- the bytes '+' and '-'
 abbrev pub plus : ℕ
@@ -36,6 +36,13 @@ pub record Numeral (p : List ℕ) (n : ℕ) : Type 0 where
   pub some : 0 < length p
   pub digits : Digits p
   pub writes : valueOf p ≡ n
+
+-- the digits p leave the range 0 to `limit` at digit k, counted from 0: the part that ends with it writes a number outside the range, and every shorter
+-- part one inside
+pub record Leaves (limit : ℕ) (p : List ℕ) (k : ℕ) : Type 0 where
+  pub stands : k < length p
+  pub inside : (j : ℕ) → j ≤ k → valueOf (take j p) ≤ limit
+  pub outside : limit < valueOf (take (suc k) p)
 
 -- the digits before these bytes go no further
 pub data Stops : List ℕ → Type 0 where

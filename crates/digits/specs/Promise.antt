@@ -23,9 +23,15 @@ front (b ∷ s) = pick (isDigit b) (b ∷ front s) []
 
 -- ---- a run of digits: p are the digits, which stand at `at`
 
+-- where they leave the range, after digits that wrote n; if they do not, the place after them
+abbrev pub leftAt : ℕ → ℕ → ℕ → List ℕ → ℕ
+leftAt limit n at [] = at
+leftAt limit n at (b ∷ p) = pick (leb (n * 10 + (b - 48)) limit) (leftAt limit (n * 10 + (b - 48)) (at + 1) p) at
+
 unfoldable pub runFrom : ℕ → ℕ → List ℕ → Run
 runFrom limit at [] = Run.Empty
-runFrom limit at (b ∷ p) = pick (leb (valueOf (b ∷ p)) limit) (Run.Value (valueOf (b ∷ p)) (at + length (b ∷ p))) Run.Over
+runFrom limit at (b ∷ p) =
+    pick (leb (valueOf (b ∷ p)) limit) (Run.Value (valueOf (b ∷ p)) (at + length (b ∷ p))) (Run.Over (leftAt limit 0 at (b ∷ p)))
 
 abbrev pub runOf : ℕ → ℕ → List ℕ → Run
 runOf limit at u = runFrom limit at (front u)

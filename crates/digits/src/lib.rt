@@ -14,11 +14,12 @@ fn is_digit(b: u64) -> bool
     48 <= b && b <= 57
 }
 
-// The digits at a place: none, or the number that they write and the place after them, or they leave the range of the field.
+// The digits at a place: none; or the number that they write and the place after them; or the place of the first digit at which they leave the range
+// of the field.
 pub enum Run {
     Empty,
     Value(u64, usize),
-    Over,
+    Over(usize),
 }
 
 // A run that goes from `at` to i and has written n.
@@ -42,11 +43,12 @@ pub fn run_at(s: &[u8], at: usize, limit: u32) -> Run
     while i < s.len() {
         let b = s[i] as u64;
         if is_digit(b) {
+            let next = i + 1;
             n = n * 10 + (b - 48);
             if most < n {
-                return Run::Over;
+                return Run::Over(i);
             }
-            i += 1;
+            i = next;
         } else {
             return run_ends(n, at, i);
         }

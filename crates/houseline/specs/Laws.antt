@@ -4,7 +4,7 @@ use Prim.Native.Nat.{ℕ, zero, suc, _+_, _≤_, _<_, _^_}
 use mathlib.Core.Path.{_≡_, refl, sym, _∙_, ap, ap₂, subst}
 use mathlib.Core.Bool.{Bool, true, false}
 use mathlib.Core.List.{List, [], _∷_, _++_, append-assoc, append-nil}
-use mathlib.Core.Logic.{⊎-elim}
+use mathlib.Core.Logic.{_⊎_, inl, inr, ⊎-elim}
 use native.Mathlib.Omega.{arith}
 use lib.ListN.{length, getD, take, drop, length-append, length-drop}
 use lib.Seq.{take-at, drop-at, drop-cons, take-suc, getD-take, length-take-le}
@@ -21,7 +21,8 @@ use Rattle.bytesearch.specs.One.{never, parted-one, never-parted}
 use Rattle.digits.specs.Numerals.{dash, Digit, Digits, Numeral, Stops, valueOf}
 use Rattle.refusals.specs.declared.Refusal.{Refusal}
 use Rattle.refusals.specs.Promise.{refusal}
-use Rattle.numbertext.specs.Numerals.{Signed, NoSigned}
+use Rattle.digits.specs.Runs.{leaves-some}
+use Rattle.numbertext.specs.Numerals.{Signed, TooFar, NoSigned}
 use Rattle.numbertext.specs.Promise.{SignedFrom, SignedAt, At}
 use Rattle.numbertext.specs.Meaning.{signed-complete}
 use Rattle.numbertext.specs.declared.SignedNumber.{SignedNumber}
@@ -29,7 +30,7 @@ use Rattle.houseline.specs.Form.{Letter, capital, digit, underscore, Let
 use Rattle.houseline.specs.declared.HouseLine.{HouseLine}
 use Rattle.whole.specs.Text.{tab}
 use Rattle.textlines.specs.Lines.{longestRead}
-use Rattle.houseline.specs.Promise.{Fits32, Reads, reads, outside, malformed}
+use Rattle.houseline.specs.Promise.{Fits32, LeavesAfter, Reads, reads, outside, malformed}
 
 -- ---- letters
 
@@ -187,10 +188,6 @@ dash-end s at h = bare {u = drop at s} (λ p e. omega (arith, ap length e, lengt
 
 -- ---- the number in 32 bits
 
-data Read32 (z : ℤ) : SignedNumber → Type 0 where
-  inside : {next : ℕ} → Fits32 z → Read32 z (SignedNumber.Value z next)
-  large : {f : Refusal} → ¬ Fits32 z → Read32 z (SignedNumber.Refused f)
-
 below-fits : (n : ℕ) → n ≤ 2 ^ 31 → Fits32 (negℤ (pos n))
 below-fits zero h = record { sfits = omega arith }
 below-fits (suc n) h = record { sfits = omega arith }
@@ -199,25 +196,53 @@ below-not : (n : ℕ) → 2 ^ 31 < n → ¬ Fits32 (negℤ (pos n))
 below-not zero h f = omega arith
 below-not (suc n) h f = omega (arith, f .sfits)
 
-module _ {at : ℕ} {u : List ℕ} {r q : SignedNumber} where
-  -- what is read is what is to be read
-  as-read : SignedFrom at u q → SignedFrom at u r → q ≡ r
-  as-read a b = sym (signed-complete a) ∙ signed-complete b
+-- what a written number is, as a number at `at`
+data Written32 (at : ℕ) (u : List ℕ) (z : ℤ) : SignedNumber → Type 0 where
+  inside : {next : ℕ} → Fits32 z → Written32 at u z (SignedNumber.Value z next)
+  leaves : {f : Refusal} → ¬ Fits32 z → NoSigned at u f → Written32 at u z (SignedNumber.Refused f)
 
-signed-read : {at : ℕ} {u : List ℕ} {z : ℤ} {r : SignedNumber} → Written u z → SignedFrom at u r → Read32 z r
-signed-read {at} (Written.plain {p} {n} w) s = ⊎-elim
-    (λ h. subst (Read32 (pos n)) (as-read (subst (λ (x : List ℕ). SignedFrom at x (SignedNumber.Value (pos n) (at + length p))) (append-nil p) (SignedFrom.number (Signed.plain w h) Stops.ended)) s) (inside (record { sfits = omega arith })))
-    (λ h. subst (Read32 (pos n)) (as-read (subst (λ (x : List ℕ). SignedFrom at x (SignedNumber.Refused (refusal 11 at (pos 0)))) (append-nil p) (SignedFrom.no-number (NoSigned.large w Stops.ended h))) s) (large (λ f. omega (arith, f .sfits))))
+record Read32 (at : ℕ) (u : List ℕ) (z : ℤ) : Type 0 where
+  result : SignedNumber
+  read : SignedFrom at u result
+  is : Written32 at u z result
+
+-- its digits p leave the range
+too-far : {p : List ℕ} {n : ℕ} (limit number at : ℕ) → Numeral p n → limit < n → (f : Refusal) × TooFar limit number at p f
+too-far {p} limit number at w h =
+    let (k, l) = leaves-some limit p (subst (λ (x : ℕ). limit < x) (sym (w .writes)) h) in
+    (_, subst (λ (x : List ℕ). TooFar limit number at x (refusal number (at + k) (pos 0))) (append-nil p) (TooFar.too-far (w .digits) Stops.ended l))
+
+numbered : {at : ℕ} {u : List ℕ} {z : ℤ} → Signed u z → Fits32 z → Read32 at u z
+numbered {at} {u} {z} w f = record {
+  result = SignedNumber.Value z (at + length u);
+  read = subst (λ (x : List ℕ). SignedFrom at x (SignedNumber.Value z (at + length u))) (append-nil u) (SignedFrom.number w Stops.ended);
+  is = inside f;
+}
+
+refused : {at : ℕ} {u : List ℕ} {z : ℤ} {f : Refusal} → ¬ Fits32 z → NoSigned at u f → Read32 at u z
+refused {f = f} o n = record { result = SignedNumber.Refused f; read = SignedFrom.no-number n; is = leaves o n }
+
+written-32 : (at : ℕ) {u : List ℕ} {z : ℤ} → Written u z → Read32 at u z
+written-32 at (Written.plain {n = n} w) = ⊎-elim
+    (λ h. numbered (Signed.plain w h) (record { sfits = omega arith }))
+    (λ h. let (f, t) = too-far 2147483647 11 at w (omega arith) in refused (λ g. omega (arith, g .sfits)) (NoSigned.above t))
     (lt-or-ge n (2 ^ 31))
-signed-read {at} (Written.with-dash {p} {n} w) s = ⊎-elim
-    (λ h. subst (Read32 (negℤ (pos n))) (as-read (subst (λ (x : List ℕ). SignedFrom at x (SignedNumber.Refused (refusal 11 at (pos 0)))) (ap (λ (x : List ℕ). dash ∷ x) (append-nil p)) (SignedFrom.no-number (NoSigned.large-dash w Stops.ended h))) s) (large (below-not n h)))
-    (λ h. subst (Read32 (negℤ (pos n))) (as-read (subst (λ (x : List ℕ). SignedFrom at x (SignedNumber.Value (negℤ (pos n)) (at + length (dash ∷ p)))) (append-nil (dash ∷ p)) (SignedFrom.number (Signed.with-dash w h) Stops.ended)) s) (inside (below-fits n h)))
+written-32 at (Written.with-dash {n = n} w) = ⊎-elim
+    (λ h. let (f, t) = too-far 2147483648 28 (at + 1) w h in refused (below-not n h) (NoSigned.below-dash t))
+    (λ h. numbered (Signed.with-dash w h) (below-fits n h))
     (lt-or-ge (2 ^ 31) n)
+
+-- what is read is that
+signed-read : {at : ℕ} {u : List ℕ} {z : ℤ} {r : SignedNumber} → Written u z → SignedFrom at u r → Written32 at u z r
+signed-read {at} {u} {z} w s = let q = written-32 at w in subst (Written32 at u z) (sym (signed-complete (q .read)) ∙ signed-complete s) (q .is)
+
+pub leaves-one : {at : ℕ} {u : List ℕ} {f g : Refusal} → NoSigned at u f → NoSigned at u g → f ≡ g
+leaves-one {f = f} {g} a b = let e : SignedNumber.Refused f ≡ SignedNumber.Refused g = sym (signed-complete (SignedFrom.no-number a)) ∙ signed-complete (SignedFrom.no-number b) in cc
 
 -- what comes of a line whose name ends at `end`, and whose number is written in u
 pub data Outcome (u : List ℕ) (end : ℕ) : HouseLine → Type 0 where
   fits : {z : ℤ} → Written u z → Fits32 z → Outcome u end (HouseLine.House end z)
-  big : {z : ℤ} → Written u z → ¬ Fits32 z → Outcome u end HouseLine.Outside
+  big : {z : ℤ} {f : Refusal} → Written u z → NoSigned (end + 1) u f → Outcome u end (HouseLine.Outside f)
 
 at-place : {s : List ℕ} {at : ℕ} {r : SignedNumber} → at ≤ length s → SignedAt s at r → SignedFrom at (drop at s) r
 at-place h (At.past k) = absurd (omega arith)
@@ -227,14 +252,14 @@ module _ {s : List ℕ} {end : ℕ} (h : end < length s) (w : IsWritten (drop (e
   pub outcome-value : {y : ℤ} {next : ℕ} → SignedAt s (end + 1) (SignedNumber.Value y next) → Outcome (drop (end + 1) s) end (HouseLine.House end (toZ w32 (ofZ w32 y)))
   outcome-value a = by (w .1) (signed-read (w .1) (at-place (omega arith) a))
     where
-      by : {z y : ℤ} {next : ℕ} → Written (drop (end + 1) s) z → Read32 z (SignedNumber.Value y next) → Outcome (drop (end + 1) s) end (HouseLine.House end (toZ w32 (ofZ w32 y)))
+      by : {z y : ℤ} {next : ℕ} → Written (drop (end + 1) s) z → Written32 (end + 1) (drop (end + 1) s) z (SignedNumber.Value y next) → Outcome (drop (end + 1) s) end (HouseLine.House end (toZ w32 (ofZ w32 y)))
       by v (inside f) = subst (λ (x : ℤ). Outcome (drop (end + 1) s) end (HouseLine.House end x)) (sym (toZ-ofZ f)) (fits v f)
 
-  pub outcome-refused : {f : Refusal} → SignedAt s (end + 1) (SignedNumber.Refused f) → Outcome (drop (end + 1) s) end HouseLine.Outside
+  pub outcome-refused : {f : Refusal} → SignedAt s (end + 1) (SignedNumber.Refused f) → Outcome (drop (end + 1) s) end (HouseLine.Outside f)
   outcome-refused a = by (w .1) (signed-read (w .1) (at-place (omega arith) a))
     where
-      by : {z : ℤ} {f : Refusal} → Written (drop (end + 1) s) z → Read32 z (SignedNumber.Refused f) → Outcome (drop (end + 1) s) end HouseLine.Outside
-      by v (large f) = big v f
+      by : {z : ℤ} {f : Refusal} → Written (drop (end + 1) s) z → Written32 (end + 1) (drop (end + 1) s) z (SignedNumber.Refused f) → Outcome (drop (end + 1) s) end (HouseLine.Outside f)
+      by v (leaves o n) = big v n
 
 pub written-by : {u p : List ℕ} (b : Bool) → DigitsFrom u p → Whether (Numerals p) b → Whether (IsWritten u) b
 written-by true d n = is-written d n
@@ -262,6 +287,42 @@ no-tab {l} {k} (UpTo.ends {q} e w p) h = subst (Without tab) (sym e) w
 pub form-parts : {l name : List ℕ} {z : ℤ} → Form l name z → (text : List ℕ) × (l ≡ name ++ (tab ∷ text)) × Name name × Written text z × (length l ≤ longestRead)
 form-parts (form {text = text} n w h) = (text, refl, n, w, h)
 
+after-tab : {l : List ℕ} (name text : List ℕ) → l ≡ name ++ (tab ∷ text) → drop (length name + 1) l ≡ text
+after-tab name text e =
+    ap (drop (length name + 1)) (e ∙ sym (append-assoc name (tab ∷ []) text)) ∙ drop-at (name ++ (tab ∷ [])) text (length name + 1) (length-append name (tab ∷ []) ∙ omega arith)
+
+-- its number fits 32 bits, or leaves them, and not both
+pub fits-or-leaves : {l name : List ℕ} {z : ℤ} → Form l name z → Fits32 z ⊎ ((f : Refusal) × LeavesAfter l (length name) f)
+fits-or-leaves {name = name} g =
+    let (text, e, n, w, h) = form-parts g in by e (written-32 (length name + 1) w .is)
+  where
+    by : {l text : List ℕ} {z : ℤ} {r : SignedNumber} → l ≡ name ++ (tab ∷ text) → Written32 (length name + 1) text z r → Fits32 z ⊎ ((f : Refusal) × LeavesAfter l (length name) f)
+    by e (inside k) = inl k
+    by {text = text} e (leaves {f} o k) = inr (f, subst (λ (x : List ℕ). NoSigned (length name + 1) x f) (sym (after-tab name text e)) k)
+
+pub fits-leaves : {l name : List ℕ} {z : ℤ} {f : Refusal} → Form l name z → Fits32 z → LeavesAfter l (length name) f → ⊥
+fits-leaves {name = name} {f = f} g k t =
+    let (text, e, n, w, h) = form-parts g in
+    by k (signed-read w (SignedFrom.no-number (subst (λ (x : List ℕ). NoSigned (length name + 1) x f) (after-tab name text e) t)))
+  where
+    by : {at : ℕ} {u : List ℕ} {z : ℤ} → Fits32 z → Written32 at u z (SignedNumber.Refused f) → ⊥
+    by k (leaves o n) = o k
+
+-- and it leaves them in the line
+no-number-place : {at : ℕ} {u : List ℕ} {f : Refusal} → NoSigned at u f → f .place ≤ at + length u
+no-number-place NoSigned.ended = omega arith
+no-number-place (NoSigned.other h k l) = omega arith
+no-number-place (NoSigned.bare-plus st) = omega arith
+no-number-place (NoSigned.bare-dash st) = omega arith
+no-number-place (NoSigned.above (TooFar.too-far {p} {u} ds st l)) = omega (arith, l .stands, length-append p u)
+no-number-place (NoSigned.above-plus (TooFar.too-far {p} {u} ds st l)) = omega (arith, l .stands, length-append p u)
+no-number-place (NoSigned.below-dash (TooFar.too-far {p} {u} ds st l)) = omega (arith, l .stands, length-append p u)
+
+pub leaves-place : {l name : List ℕ} {z : ℤ} {f : Refusal} → Form l name z → LeavesAfter l (length name) f → f .place ≤ longestRead
+leaves-place {l} {name} g t =
+    let (text, e, n, w, h) = form-parts g in
+    omega (arith, no-number-place t, ap length (after-tab name text e), ap length e, length-append name (tab ∷ text))
+
 -- at its first tab
 pub form-split : {l q u name : List ℕ} {z : ℤ} → l ≡ q ++ (tab ∷ u) → Without tab q → Form l name z → (name ≡ q) × Name q × Written u z × (length l ≤ longestRead)
 form-split {z = z} e w f =
@@ -288,7 +349,8 @@ module _ {l : List ℕ} (q u : List ℕ) (e : l ≡ q ++ (tab ∷ u)) (w : Witho
 -- what the reader finds
 pub reads-outcome : {l : List ℕ} {k : ℕ} {r : HouseLine} → Parts l k → k ≤ length l → Name (take k l) → length l ≤ longestRead → Outcome (drop (k + 1) l) k r → Reads l r
 reads-outcome {l} {k} p i n h (fits {z} w f) = subst (λ (x : ℕ). Reads l (HouseLine.House x z)) (length-take-le k l i) (reads (form-of (take k l) (drop (k + 1) l) (p .is) (p .without) n w h) f)
-reads-outcome {l} {k} p i n h (big w f) = outside (form-of (take k l) (drop (k + 1) l) (p .is) (p .without) n w h) f
+reads-outcome {l} {k} p i n h (big {f = f} w t) =
+    outside (form-of (take k l) (drop (k + 1) l) (p .is) (p .without) n w h) (subst (λ (x : ℕ). LeavesAfter l x f) (sym (length-take-le k l i)) t)
 
 pub reads-no-name : {l : List ℕ} {k : ℕ} → Parts l k → ¬ Name (take k l) → Reads l HouseLine.Malformed
 reads-no-name {l} {k} p o = malformed (form-no-name (take k l) (drop (k + 1) l) (p .is) (p .without) o)

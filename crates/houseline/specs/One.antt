@@ -6,10 +6,11 @@ use mathlib.Core.List.{List}
 use lib.ListN.{length}
 use lib.IntN.{ℤ, pos, negℤ}
 use Rattle.digits.specs.Numerals.{Numeral, valueOf}
+use Rattle.refusals.specs.declared.Refusal.{Refusal}
 use Rattle.houseline.specs.Form.{Written, Form, form}
-use Rattle.houseline.specs.Laws.{letters-without, digits-no-dash, form-parts, form-split}
+use Rattle.houseline.specs.Laws.{letters-without, digits-no-dash, leaves-one, form-parts, fits-leaves, form-split}
 use Rattle.houseline.specs.declared.HouseLine.{HouseLine}
-use Rattle.houseline.specs.Promise.{Fits32, Reads, reads, outside, malformed}
+use Rattle.houseline.specs.Promise.{Fits32, LeavesAfter, Reads, reads, outside, malformed}
 
 -- ---- one form
 
@@ -28,12 +29,15 @@ form-one f g =
     let (a, m, v, k) = form-split e (letters-without (n .letters)) g in
     (sym a, written-same refl w v)
 
+pub leaves-same : (l : List ℕ) {name name′ : List ℕ} {f g : Refusal} → name ≡ name′ → LeavesAfter l (length name) f → LeavesAfter l (length name′) g → f ≡ g
+leaves-same l {g = g} e a b = leaves-one a (subst (λ (x : List ℕ). LeavesAfter l (length x) g) (sym e) b)
+
 pub reads-one : {l : List ℕ} {a b : HouseLine} → Reads l a → Reads l b → a ≡ b
 reads-one (reads f h) (reads g k) = let (a, b) = form-one f g in ap₂ (λ (x : List ℕ) (y : ℤ). HouseLine.House (length x) y) a b
-reads-one (reads f h) (outside g k) = absurd (k (subst Fits32 (form-one f g .1) h))
+reads-one (reads f h) (outside g k) = absurd (fits-leaves g (subst Fits32 (form-one f g .1) h) k)
 reads-one (reads f h) (malformed n) = absurd (n _ _ f)
-reads-one (outside f h) (reads g k) = absurd (h (subst Fits32 (form-one g f .1) k))
-reads-one (outside f h) (outside g k) = refl
+reads-one (outside f h) (reads g k) = absurd (fits-leaves f (subst Fits32 (form-one g f .1) k) h)
+reads-one (outside f h) (outside g k) = ap HouseLine.Outside (leaves-same _ (form-one f g .0) h k)
 reads-one (outside f h) (malformed n) = absurd (n _ _ f)
 reads-one (malformed n) (reads g k) = absurd (n _ _ g)
 reads-one (malformed n) (outside g k) = absurd (n _ _ g)

@@ -1,6 +1,6 @@
--- Of every line it is decided whether it has the form, and of every number whether it fits 32 bits.
+-- Of every line it is decided whether it has the form.
 -- Assumes nothing.
-use Prim.Native.Nat.{ℕ, _≤_, _<_, _^_}
+use Prim.Native.Nat.{ℕ, _≤_, _<_}
 use mathlib.Core.Path.{_≡_, refl, sym, ap, subst}
 use mathlib.Core.Bool.{Bool, true, false}
 use mathlib.Core.List.{List, [], _∷_, _++_}
@@ -8,7 +8,6 @@ use mathlib.Core.Logic.{_⊎_, inl, inr, ⊎-elim}
 use native.Mathlib.Omega.{arith}
 use lib.ListN.{length}
 use lib.IntN.{ℤ}
-use lib.Signed.{mag}
 use lib.Dec.{eqb}
 use borrow.Author.Tests.{eqb-true, eqb-false}
 use Rattle.whole.specs.Tests.{lt-or-ge}
@@ -20,7 +19,6 @@ use Rattle.houseline.specs.Form.{Letter, capital, digit, underscore, Let
 use Rattle.houseline.specs.Laws.{DigitsFrom, dashed, bare, Numerals, IsWritten, is-written, not-written, below-letters, in-the-gap, letter-last, not-low, not-high, form-long, form-no-tab, form-no-name, form-no-number, form-of}
 use Rattle.whole.specs.Text.{tab}
 use Rattle.textlines.specs.Lines.{longestRead}
-use Rattle.houseline.specs.Promise.{Fits32}
 
 abbrev pub Decided : Type 0 → Type 0
 Decided P = P ⊎ ¬ P
@@ -129,9 +127,3 @@ form-or-not l = ⊎-elim
     (λ w. inr (form-no-tab w))
     (split l))
     (lt-or-ge longestRead (length l))
-
-pub fits-or-not : (z : ℤ) → Decided (Fits32 z)
-fits-or-not z = ⊎-elim (λ h. inl (record { sfits = h })) (λ h. inr (λ f. over h (f .sfits))) (lt-or-ge (mag z) (2 ^ 31))
-  where
-    over : {n : ℕ} → 2 ^ 31 ≤ n → n < 2 ^ 31 → ⊥
-    over h k = omega arith

@@ -9,12 +9,13 @@ ghost use Rattle.houseline.specs.Form.{Letter, Name};
 ghost use Rattle.houseline.specs.Promise.{Reads};
 ghost use Rattle.houseline.specs.Laws.{Lettered, DigitsFrom, Numerals, IsWritten, Outcome};
 use numbertext::SignedNumber;
+use refusals::Refusal;
 use textlines::LONGEST_READ;
 
-// The length of the name and the number; or the number is outside 32 bits; or it is no such line.
+// The length of the name and the number; or the number is outside 32 bits, with its refusal as a number in the line; or it is no such line.
 pub enum HouseLine {
     House(usize, i32),
-    Outside,
+    Outside(Refusal),
     Malformed,
 }
 
@@ -116,7 +117,7 @@ fn house_of(line: &[u8], end: usize) -> HouseLine
 {
     match numbertext::signed_at(line, end + 1) {
         SignedNumber::Value(r, _) => HouseLine::House(end, r),
-        SignedNumber::Refused(_) => HouseLine::Outside,
+        SignedNumber::Refused(f) => HouseLine::Outside(f),
     }
 }
 

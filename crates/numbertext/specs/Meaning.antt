@@ -15,11 +15,11 @@ use Rattle.whole.specs.Promise.{signedOf}
 use Rattle.refusals.specs.Promise.{refusal}
 use Rattle.digits.specs.Numerals.{plus, dash, Digits, Numeral, Stops}
 use Rattle.digits.specs.Promise.{pick, runOf}
-use Rattle.digits.specs.Runs.{pick-no, RunView, run-view, run-none, run-is, run-large}
+use Rattle.digits.specs.Runs.{pick-no, RunView, run-view, run-none, run-is, run-leaves}
 use Rattle.digits.specs.declared.Run.{Run}
-use Rattle.numbertext.specs.Numerals.{Signed, NoNumber, NoSigned, NoDash}
+use Rattle.numbertext.specs.Numerals.{Signed, TooFar, NoNumber, NoSigned, NoDash}
 use Rattle.numbertext.specs.Promise.{NumberFrom, SignedFrom, DashFrom, EndFrom, At, NumberAt, SignedAt, DashAt, EndAt}
-use Rattle.numbertext.specs.Reading.{placed, noNumber, toNumber, readNumber, theNumber, limitOf, toSigned, signedRun, readSigned, theSigned, readDash, theDash, readEnd, theEnd}
+use Rattle.numbertext.specs.Reading.{placed, noNumber, toNumber, readNumber, theNumber, limitOf, wayOut, toSigned, signedRun, readSigned, theSigned, readDash, theDash, readEnd, theEnd}
 use Rattle.numbertext.specs.Places.{placed-past, placed-in}
 use Rattle.numbertext.specs.declared.Number.{Number}
 use Rattle.numbertext.specs.declared.SignedNumber.{SignedNumber}
@@ -40,8 +40,8 @@ number-sound at u = by (run-view 4294967295 at u)
     by (RunView.empty st) = NumberFrom.no-number (none-number at st)
     by (RunView.value {p} {n = n} e w st h) =
         subst (λ (x : List ℕ). NumberFrom at x (Number.Value n (at + length p))) (sym e) (NumberFrom.number (record { numeral = w; fits = omega arith }) st)
-    by (RunView.over e w st h) =
-        NumberFrom.no-number (subst (λ (x : List ℕ). NoNumber at x (refusal 11 at (pos 0))) (sym e) (NoNumber.large w st (omega arith)))
+    by (RunView.over {k = k} e ds st l) =
+        NumberFrom.no-number (NoNumber.above (subst (λ (x : List ℕ). TooFar 4294967295 11 at x (refusal 11 (at + k) (pos 0))) (sym e) (TooFar.too-far ds st l)))
 
 pub number-complete : {at : ℕ} {u : List ℕ} {r : Number} → NumberFrom at u r → readNumber at u ≡ r
 unfolding readNumber
@@ -51,45 +51,46 @@ number-complete {at} (NumberFrom.no-number h) = by h
     by : {u : List ℕ} {f : Refusal} → NoNumber at u f → toNumber at u (runOf 4294967295 at u) ≡ Number.Refused f
     by NoNumber.ended = ap (toNumber at []) (run-none 4294967295 at Stops.ended)
     by (NoNumber.other {b} {u} h) = ap (toNumber at (b ∷ u)) (run-none 4294967295 at (Stops.other {b = b} {u = u} h))
-    by (NoNumber.large {p} {u} w st h) = ap (toNumber at (p ++ u)) (run-large 4294967295 at w st (omega arith))
+    by (NoNumber.above (TooFar.too-far {p} {u} ds st l)) = ap (toNumber at (p ++ u)) (run-leaves 4294967295 at ds st l)
 
 -- ---- a signed number
 
--- the bytes c are the sign or none; what a numeral after them means is given: it fits, or is too large, or there is no digit
+-- the bytes c are the sign or none; what digits after them mean is given: they fit, or leave the range, or there is none
 module _ (neg : Bool) (at : ℕ) (c : List ℕ) (first : ℕ) (here : first ≡ at + length c) (none : Refusal)
     (small : (p : List ℕ) (n : ℕ) → Numeral p n → n ≤ limitOf neg → Signed (c ++ p) (signedOf neg n))
-    (large : (p u : List ℕ) (n : ℕ) → Numeral p n → Stops u → limitOf neg < n → NoSigned at (c ++ (p ++ u)) (refusal 11 at (pos 0)))
+    (large : (u : List ℕ) (f : Refusal) → TooFar (limitOf neg) (wayOut neg) first u f → NoSigned at (c ++ u) f)
     (u : List ℕ) (bare : Stops u → NoSigned at (c ++ u) none) where
-  signed-by : {r : Run} → RunView (limitOf neg) first u r → SignedFrom at (c ++ u) (toSigned neg at none r)
+  signed-by : {r : Run} → RunView (limitOf neg) first u r → SignedFrom at (c ++ u) (toSigned neg none r)
   signed-by (RunView.empty st) = SignedFrom.no-number (bare st)
   signed-by (RunView.value {p} {v} {n} e w st h) =
       subst (λ (x : List ℕ). SignedFrom at (c ++ x) (SignedNumber.Value (signedOf neg n) (first + length p))) (sym e)
       (subst (λ (x : List ℕ). SignedFrom at x (SignedNumber.Value (signedOf neg n) (first + length p))) (append-assoc c p v)
       (subst (λ (k : ℕ). SignedFrom at ((c ++ p) ++ v) (SignedNumber.Value (signedOf neg n) k)) (omega (arith, length-append c p))
       (SignedFrom.number (small p n w h) st)))
-  signed-by (RunView.over {p} {v} {n} e w st h) =
-      SignedFrom.no-number (subst (λ (x : List ℕ). NoSigned at (c ++ x) (refusal 11 at (pos 0))) (sym e) (large p v n w st h))
+  signed-by (RunView.over {k = k} e ds st l) =
+      SignedFrom.no-number
+      (large u _ (subst (λ (x : List ℕ). TooFar (limitOf neg) (wayOut neg) first x (refusal (wayOut neg) (first + k) (pos 0))) (sym e) (TooFar.too-far ds st l)))
 
-plain-sound : (at b : ℕ) (u : List ℕ) → (b ≡ plus → ⊥) → (b ≡ dash → ⊥) → SignedFrom at (b ∷ u) (signedRun false at at (refusal 9 at (pos b)) (b ∷ u))
+plain-sound : (at b : ℕ) (u : List ℕ) → (b ≡ plus → ⊥) → (b ≡ dash → ⊥) → SignedFrom at (b ∷ u) (signedRun false at (refusal 9 at (pos b)) (b ∷ u))
 unfolding signedOf signedRun
 plain-sound at b u k l =
-    signed-by false at [] at (omega arith) (refusal 9 at (pos b)) (λ p n w h. Signed.plain w (omega arith)) (λ p v n w st h. NoSigned.large w st (omega arith))
+    signed-by false at [] at (omega arith) (refusal 9 at (pos b)) (λ p n w h. Signed.plain w (omega arith)) (λ v f t. NoSigned.above t)
     (b ∷ u) bare (run-view (limitOf false) at (b ∷ u))
   where
     bare : Stops (b ∷ u) → NoSigned at (b ∷ u) (refusal 9 at (pos b))
     bare (Stops.other h) = NoSigned.other h k l
 
-plus-sound : (at : ℕ) (u : List ℕ) → SignedFrom at (plus ∷ u) (signedRun false at (at + 1) (refusal 10 at (pos 0)) u)
+plus-sound : (at : ℕ) (u : List ℕ) → SignedFrom at (plus ∷ u) (signedRun false (at + 1) (refusal 10 at (pos 0)) u)
 unfolding signedOf signedRun
 plus-sound at u =
     signed-by false at (plus ∷ []) (at + 1) refl (refusal 10 at (pos 0)) (λ p n w h. Signed.with-plus w (omega arith))
-    (λ p v n w st h. NoSigned.large-plus w st (omega arith)) u (λ st. NoSigned.bare-plus st) (run-view (limitOf false) (at + 1) u)
+    (λ v f t. NoSigned.above-plus t) u (λ st. NoSigned.bare-plus st) (run-view (limitOf false) (at + 1) u)
 
-dash-sound′ : (at : ℕ) (u : List ℕ) → SignedFrom at (dash ∷ u) (signedRun true at (at + 1) (refusal 10 at (pos 0)) u)
+dash-sound′ : (at : ℕ) (u : List ℕ) → SignedFrom at (dash ∷ u) (signedRun true (at + 1) (refusal 10 at (pos 0)) u)
 unfolding signedOf signedRun
 dash-sound′ at u =
     signed-by true at (dash ∷ []) (at + 1) refl (refusal 10 at (pos 0)) (λ p n w h. Signed.with-dash w (omega arith))
-    (λ p v n w st h. NoSigned.large-dash w st (omega arith)) u (λ st. NoSigned.bare-dash st) (run-view (limitOf true) (at + 1) u)
+    (λ v f t. NoSigned.below-dash t) u (λ st. NoSigned.bare-dash st) (run-view (limitOf true) (at + 1) u)
 
 pub signed-sound : (at : ℕ) (u : List ℕ) → SignedFrom at u (readSigned at u)
 unfolding readSigned
@@ -97,13 +98,13 @@ signed-sound at [] = SignedFrom.no-number NoSigned.ended
 signed-sound at (b ∷ u) = go (eqb b dash) refl
   where
     first : SignedNumber
-    first = signedRun true at (at + 1) (refusal 10 at (pos 0)) u
+    first = signedRun true (at + 1) (refusal 10 at (pos 0)) u
 
     second : SignedNumber
-    second = signedRun false at (at + 1) (refusal 10 at (pos 0)) u
+    second = signedRun false (at + 1) (refusal 10 at (pos 0)) u
 
     third : SignedNumber
-    third = signedRun false at at (refusal 9 at (pos b)) (b ∷ u)
+    third = signedRun false at (refusal 9 at (pos b)) (b ∷ u)
 
     goes : (t : Bool) → eqb b plus ≡ t → (b ≡ dash → ⊥) → SignedFrom at (b ∷ u) (pick t second third)
     goes true e k = subst (λ (x : ℕ). SignedFrom at (x ∷ u) second) (sym (eqb-true b plus e)) (plus-sound at u)
@@ -114,48 +115,46 @@ signed-sound at (b ∷ u) = go (eqb b dash) refl
     go false e = goes (eqb b plus) refl (eqb-false b dash e)
 
 -- the other way: which run it comes to
-after-dash : (at : ℕ) (u : List ℕ) → readSigned at (dash ∷ u) ≡ signedRun true at (at + 1) (refusal 10 at (pos 0)) u
+after-dash : (at : ℕ) (u : List ℕ) → readSigned at (dash ∷ u) ≡ signedRun true (at + 1) (refusal 10 at (pos 0)) u
 unfolding readSigned
 after-dash at u = refl
 
-after-plus : (at : ℕ) (u : List ℕ) → readSigned at (plus ∷ u) ≡ signedRun false at (at + 1) (refusal 10 at (pos 0)) u
+after-plus : (at : ℕ) (u : List ℕ) → readSigned at (plus ∷ u) ≡ signedRun false (at + 1) (refusal 10 at (pos 0)) u
 unfolding readSigned
 after-plus at u = refl
 
-after-none : (at b : ℕ) (u : List ℕ) → (b ≡ plus → ⊥) → (b ≡ dash → ⊥) → readSigned at (b ∷ u) ≡ signedRun false at at (refusal 9 at (pos b)) (b ∷ u)
+after-none : (at b : ℕ) (u : List ℕ) → (b ≡ plus → ⊥) → (b ≡ dash → ⊥) → readSigned at (b ∷ u) ≡ signedRun false at (refusal 9 at (pos b)) (b ∷ u)
 unfolding readSigned
 after-none at b u k l = pick-no _ _ (ne-eqb b dash l) ∙ pick-no _ _ (ne-eqb b plus k)
 
--- a numeral begins with no sign, whatever the refusal of one without a digit would be
-after-numeral : (at : ℕ) (u : List ℕ) {p : List ℕ} {n : ℕ} {r : SignedNumber} → Numeral p n → ((none : Refusal) → signedRun false at at none (p ++ u) ≡ r) → readSigned at (p ++ u) ≡ r
-after-numeral at u w e = by (w .digits) (w .some) e
-  where
-    by : {q : List ℕ} → Digits q → 0 < length q → {r : SignedNumber} → ((none : Refusal) → signedRun false at at none (q ++ u) ≡ r) → readSigned at (q ++ u) ≡ r
-    by Digits.none h e = absurd (omega arith)
-    by (Digits.more {b} {s} d ds) h e = after-none at b (s ++ u) (λ x. omega (arith, d .low)) (λ x. omega (arith, d .low)) ∙ e (refusal 9 at (pos b))
+-- digits begin with no sign, whatever the refusal of a text without one would be
+after-digits : (at : ℕ) (u : List ℕ) {p : List ℕ} {r : SignedNumber} → Digits p → 0 < length p → ((none : Refusal) → signedRun false at none (p ++ u) ≡ r) → readSigned at (p ++ u) ≡ r
+after-digits at u Digits.none h e = absurd (omega arith)
+after-digits at u (Digits.more {b} {s} d ds) h e = after-none at b (s ++ u) (λ x. omega (arith, d .low)) (λ x. omega (arith, d .low)) ∙ e (refusal 9 at (pos b))
 
 pub signed-complete : {at : ℕ} {u : List ℕ} {r : SignedNumber} → SignedFrom at u r → readSigned at u ≡ r
 unfolding signedOf readSigned signedRun
 signed-complete {at} (SignedFrom.number w st) = by w st
   where
     by : {p : List ℕ} {y : ℤ} → Signed p y → {u : List ℕ} → Stops u → readSigned at (p ++ u) ≡ SignedNumber.Value y (at + length p)
-    by (Signed.plain w h) {u} st = after-numeral at u w (λ none. ap (toSigned false at none) (run-is (limitOf false) at w st (omega arith)))
+    by (Signed.plain w h) {u} st = after-digits at u (w .digits) (w .some) (λ none. ap (toSigned false none) (run-is (limitOf false) at w st (omega arith)))
     by (Signed.with-plus {p} {n} w h) {u} st =
-        after-plus at (p ++ u) ∙ ap (toSigned false at (refusal 10 at (pos 0))) (run-is (limitOf false) (at + 1) w st (omega arith)) ∙ ap (SignedNumber.Value (pos n)) (omega arith)
+        after-plus at (p ++ u) ∙ ap (toSigned false (refusal 10 at (pos 0))) (run-is (limitOf false) (at + 1) w st (omega arith)) ∙ ap (SignedNumber.Value (pos n)) (omega arith)
     by (Signed.with-dash {p} {n} w h) {u} st =
-        after-dash at (p ++ u) ∙ ap (toSigned true at (refusal 10 at (pos 0))) (run-is (limitOf true) (at + 1) w st (omega arith)) ∙ ap (SignedNumber.Value (negℤ (pos n))) (omega arith)
+        after-dash at (p ++ u) ∙ ap (toSigned true (refusal 10 at (pos 0))) (run-is (limitOf true) (at + 1) w st (omega arith)) ∙ ap (SignedNumber.Value (negℤ (pos n))) (omega arith)
 signed-complete {at} (SignedFrom.no-number h) = by h
   where
     by : {u : List ℕ} {f : Refusal} → NoSigned at u f → readSigned at u ≡ SignedNumber.Refused f
     by NoSigned.ended = refl
-    by (NoSigned.other {b} {u} h k l) = after-none at b u k l ∙ ap (toSigned false at (refusal 9 at (pos b))) (run-none (limitOf false) at (Stops.other {b = b} {u = u} h))
-    by (NoSigned.bare-plus {u} st) = after-plus at u ∙ ap (toSigned false at (refusal 10 at (pos 0))) (run-none (limitOf false) (at + 1) st)
-    by (NoSigned.bare-dash {u} st) = after-dash at u ∙ ap (toSigned true at (refusal 10 at (pos 0))) (run-none (limitOf true) (at + 1) st)
-    by (NoSigned.large {u = u} w st h) = after-numeral at u w (λ none. ap (toSigned false at none) (run-large (limitOf false) at w st (omega arith)))
-    by (NoSigned.large-plus {p} {u} w st h) =
-        after-plus at (p ++ u) ∙ ap (toSigned false at (refusal 10 at (pos 0))) (run-large (limitOf false) (at + 1) w st (omega arith))
-    by (NoSigned.large-dash {p} {u} w st h) =
-        after-dash at (p ++ u) ∙ ap (toSigned true at (refusal 10 at (pos 0))) (run-large (limitOf true) (at + 1) w st (omega arith))
+    by (NoSigned.other {b} {u} h k l) = after-none at b u k l ∙ ap (toSigned false (refusal 9 at (pos b))) (run-none (limitOf false) at (Stops.other {b = b} {u = u} h))
+    by (NoSigned.bare-plus {u} st) = after-plus at u ∙ ap (toSigned false (refusal 10 at (pos 0))) (run-none (limitOf false) (at + 1) st)
+    by (NoSigned.bare-dash {u} st) = after-dash at u ∙ ap (toSigned true (refusal 10 at (pos 0))) (run-none (limitOf true) (at + 1) st)
+    by (NoSigned.above (TooFar.too-far {u = u} ds st l)) =
+        after-digits at u ds (omega (arith, l .stands)) (λ none. ap (toSigned false none) (run-leaves (limitOf false) at ds st l))
+    by (NoSigned.above-plus (TooFar.too-far {p} {u} ds st l)) =
+        after-plus at (p ++ u) ∙ ap (toSigned false (refusal 10 at (pos 0))) (run-leaves (limitOf false) (at + 1) ds st l)
+    by (NoSigned.below-dash (TooFar.too-far {p} {u} ds st l)) =
+        after-dash at (p ++ u) ∙ ap (toSigned true (refusal 10 at (pos 0))) (run-leaves (limitOf true) (at + 1) ds st l)
 
 -- ---- a `-`, and the end
 

@@ -22,7 +22,7 @@ use Rattle.digits.specs.Numerals.{plus, dash, valueOf, Digit}
 use Rattle.digits.specs.Promise.{pick, front, runFrom, runOf}
 use Rattle.digits.specs.Runs.{pick-yes, pick-no, at-cons, front-end, run-empty, run-value, run-within}
 use Rattle.digits.specs.declared.Run.{Run}
-use Rattle.numbertext.specs.Reading.{placed, endedAt, noNumber, toNumber, readNumber, theNumber, limitOf, toSigned, signedRun, readSigned, theSigned, readDash, theDash, readEnd, theEnd}
+use Rattle.numbertext.specs.Reading.{placed, endedAt, noNumber, toNumber, readNumber, theNumber, limitOf, wayOut, toSigned, signedRun, readSigned, theSigned, readDash, theDash, readEnd, theEnd}
 use Rattle.numbertext.specs.declared.Number.{Number}
 use Rattle.numbertext.specs.declared.SignedNumber.{SignedNumber}
 use Rattle.numbertext.specs.declared.Dash.{Dash}
@@ -71,7 +71,7 @@ module _ (s : List ℕ) (at : ℕ) {r : Run} (e : r ≡ runOf 4294967295 at (dro
       apart : r ≡ Run.Empty → ⊥
       apart x = let z : _≡_ {A = ℕ} 0 1 = cc in omega arith
 
-  pub number-over : r ≡ Run.Over → theNumber s at ≡ Number.Refused (refusal 11 at (pos 0))
+  pub number-over : {i : ℕ} → r ≡ Run.Over i → theNumber s at ≡ Number.Refused (refusal 11 i (pos 0))
   number-over q = number-by (some-within (λ x. apart x)) ∙ ap (toNumber at (drop at s)) q
     where
       apart : r ≡ Run.Empty → ⊥
@@ -93,14 +93,18 @@ signed-fits true zero h = record { sfits = omega arith }
 signed-fits true (suc n) h = record { sfits = omega arith }
 signed-fits false n h = record { sfits = omega arith }
 
-pub signed-none : (neg : Bool) (at first : ℕ) (u : List ℕ) {f g : Refusal} → f ≡ g → signedRun neg at first f u ≡ signedRun neg at first g u
-signed-none neg at first u e = ap (λ (f : Refusal). signedRun neg at first f u) e
+pub signed-none : (neg : Bool) (first : ℕ) (u : List ℕ) {f g : Refusal} → f ≡ g → signedRun neg first f u ≡ signedRun neg first g u
+signed-none neg first u e = ap (λ (f : Refusal). signedRun neg first f u) e
 
 -- the digits of a signed number, by the answer of the run
-module _ (neg : Bool) (at first : ℕ) (none : Refusal) (u : List ℕ) {limit : ℕ} {r : Run} (l : limit ≡ limitOf neg) (e : r ≡ runOf limit first u) where
-  pub signed-as : {q : Run} → r ≡ q → signedRun neg at first none u ≡ toSigned neg at none q
+module _ (neg : Bool) (first : ℕ) (none : Refusal) (u : List ℕ) {limit : ℕ} {r : Run} (l : limit ≡ limitOf neg) (e : r ≡ runOf limit first u) where
+  pub signed-as : {q : Run} → r ≡ q → signedRun neg first none u ≡ toSigned neg none q
   unfolding signedRun
-  signed-as q = ap (toSigned neg at none) (ap (λ (k : ℕ). runOf k first u) (sym l) ∙ sym e ∙ q)
+  signed-as q = ap (toSigned neg none) (ap (λ (k : ℕ). runOf k first u) (sym l) ∙ sym e ∙ q)
+
+  -- the range is left at i, on the side of the sign
+  pub signed-over : {i way : ℕ} {f : Refusal} → r ≡ Run.Over i → way ≡ wayOut neg → f ≡ refusal way i (pos 0) → SignedNumber.Refused f ≡ signedRun neg first none u
+  signed-over {i} q w is = ap SignedNumber.Refused (is ∙ ap (λ (way : ℕ). refusal way i (pos 0)) w) ∙ sym (signed-as q)
 
   -- the magnitude is in the range, so that the number is brought into 32 bits
   module _ {n next : ℕ} (v : r ≡ Run.Value n next) {x : Narrowed} (w : Narrows (signedOf neg n) x) where
@@ -110,34 +114,34 @@ module _ (neg : Bool) (at first : ℕ) (none : Refusal) (u : List ℕ) {limit : 
     narrowed : x ≡ Narrowed′.Fits (signedOf neg n)
     narrowed = narrows-one w (fits (signed-fits neg n within))
 
-    pub signed-value : {y : ℤ} → x ≡ Narrowed′.Fits y → SignedNumber.Value (toZ w32 (ofZ w32 y)) next ≡ signedRun neg at first none u
+    pub signed-value : {y : ℤ} → x ≡ Narrowed′.Fits y → SignedNumber.Value (toZ w32 (ofZ w32 y)) next ≡ signedRun neg first none u
     signed-value {y} k =
         let is : y ≡ signedOf neg n = let f = narrowed in cc in
         ap (λ (z : ℤ). SignedNumber.Value z next) (back is (signed-fits neg n within)) ∙ sym (signed-as v)
 
-    pub never-above : x ≡ Narrowed′.Above → {q : SignedNumber} → q ≡ signedRun neg at first none u
+    pub never-above : x ≡ Narrowed′.Above → {q : SignedNumber} → q ≡ signedRun neg first none u
     never-above k = let f = narrowed in let z : _≡_ {A = ℕ} 0 1 = cc in absurd (omega arith)
 
-    pub never-below : x ≡ Narrowed′.Below → {q : SignedNumber} → q ≡ signedRun neg at first none u
+    pub never-below : x ≡ Narrowed′.Below → {q : SignedNumber} → q ≡ signedRun neg first none u
     never-below k = let f = narrowed in let z : _≡_ {A = ℕ} 0 1 = cc in absurd (omega arith)
 
 module _ (s : List ℕ) (at : ℕ) (h : at < length s) where
   signed-on : theSigned s at ≡ readSigned at (getD s at 0 ∷ drop (at + 1) s)
   signed-on = placed-on SignedNumber.Refused readSigned s at h
 
-  pub signed-dash : getD s at 0 ≡ dash → theSigned s at ≡ signedRun true at (at + 1) (refusal 10 at (pos 0)) (drop (at + 1) s)
+  pub signed-dash : getD s at 0 ≡ dash → theSigned s at ≡ signedRun true (at + 1) (refusal 10 at (pos 0)) (drop (at + 1) s)
   unfolding readSigned
   signed-dash e = signed-on ∙ pick-yes _ _ (eq-eqb _ _ e)
 
   module _ (k : getD s at 0 ≡ dash → ⊥) where
-    pub signed-plus : getD s at 0 ≡ plus → theSigned s at ≡ signedRun false at (at + 1) (refusal 10 at (pos 0)) (drop (at + 1) s)
+    pub signed-plus : getD s at 0 ≡ plus → theSigned s at ≡ signedRun false (at + 1) (refusal 10 at (pos 0)) (drop (at + 1) s)
     unfolding readSigned
     signed-plus e = signed-on ∙ pick-no _ _ (ne-eqb _ _ k) ∙ pick-yes _ _ (eq-eqb _ _ e)
 
-    pub signed-plain : (getD s at 0 ≡ plus → ⊥) → theSigned s at ≡ signedRun false at at (refusal 9 at (pos (getD s at 0))) (drop at s)
+    pub signed-plain : (getD s at 0 ≡ plus → ⊥) → theSigned s at ≡ signedRun false at (refusal 9 at (pos (getD s at 0))) (drop at s)
     unfolding readSigned
     signed-plain l =
-        signed-on ∙ pick-no _ _ (ne-eqb _ _ k) ∙ pick-no _ _ (ne-eqb _ _ l) ∙ ap (signedRun false at at (refusal 9 at (pos (getD s at 0)))) (sym (at-cons s at h))
+        signed-on ∙ pick-no _ _ (ne-eqb _ _ k) ∙ pick-no _ _ (ne-eqb _ _ l) ∙ ap (signedRun false at (refusal 9 at (pos (getD s at 0)))) (sym (at-cons s at h))
 
 pub signed-end : (s : List ℕ) (at : ℕ) → length s ≤ at → theSigned s at ≡ SignedNumber.Refused (endedAt 8 s at)
 unfolding readSigned
@@ -181,5 +185,5 @@ pub signed-of : (s : List ℕ) (p : List ℕ) {n next : ℕ} → 0 < length s �
 unfolding signedOf
 signed-of s p h d f g e k l =
     signed-plain s 0 h (λ e. omega (arith, d .low)) (λ e. omega (arith, d .low))
-    ∙ signed-as false 0 0 _ (drop 0 s) refl refl (ap (runFrom 2147483647 0) f ∙ run-value 2147483647 0 p g (subst (λ (x : ℕ). x ≤ 2147483647) e l))
+    ∙ signed-as false 0 _ (drop 0 s) refl refl (ap (runFrom 2147483647 0) f ∙ run-value 2147483647 0 p g (subst (λ (x : ℕ). x ≤ 2147483647) e l))
     ∙ ap₂ (λ (x i : ℕ). SignedNumber.Value (pos x) i) (sym e) (omega arith)

@@ -34,7 +34,7 @@ noNumber at (b ∷ u) = refusal 9 at (pos b)
 abbrev pub toNumber : ℕ → List ℕ → Run → Number
 toNumber at u Run.Empty = Number.Refused (noNumber at u)
 toNumber at u (Run.Value n next) = Number.Value n next
-toNumber at u Run.Over = Number.Refused (refusal 11 at (pos 0))
+toNumber at u (Run.Over i) = Number.Refused (refusal 11 i (pos 0))
 
 unfoldable pub readNumber : ℕ → List ℕ → Number
 readNumber at u = toNumber at u (runOf 4294967295 at u)
@@ -49,22 +49,27 @@ abbrev pub limitOf : Bool → ℕ
 limitOf true = 2147483648
 limitOf false = 2147483647
 
--- the number stands at `at`, and `none` is the refusal where there is no digit
-abbrev pub toSigned : Bool → ℕ → Refusal → Run → SignedNumber
-toSigned neg at none Run.Empty = SignedNumber.Refused none
-toSigned neg at none (Run.Value n next) = SignedNumber.Value (signedOf neg n) next
-toSigned neg at none Run.Over = SignedNumber.Refused (refusal 11 at (pos 0))
+-- below 32 bits, and above them
+abbrev pub wayOut : Bool → ℕ
+wayOut true = 28
+wayOut false = 11
+
+-- `none` is the refusal where there is no digit
+abbrev pub toSigned : Bool → Refusal → Run → SignedNumber
+toSigned neg none Run.Empty = SignedNumber.Refused none
+toSigned neg none (Run.Value n next) = SignedNumber.Value (signedOf neg n) next
+toSigned neg none (Run.Over i) = SignedNumber.Refused (refusal (wayOut neg) i (pos 0))
 
 -- the digits u stand at `first`
-unfoldable pub signedRun : Bool → ℕ → ℕ → Refusal → List ℕ → SignedNumber
-signedRun neg at first none u = toSigned neg at none (runOf (limitOf neg) first u)
+unfoldable pub signedRun : Bool → ℕ → Refusal → List ℕ → SignedNumber
+signedRun neg first none u = toSigned neg none (runOf (limitOf neg) first u)
 
 unfoldable pub readSigned : ℕ → List ℕ → SignedNumber
 readSigned at [] = SignedNumber.Refused (refusal 8 at (pos 0))
 readSigned at (b ∷ u) =
-    pick (eqb b dash) (signedRun true at (at + 1) (refusal 10 at (pos 0)) u)
-    (pick (eqb b plus) (signedRun false at (at + 1) (refusal 10 at (pos 0)) u)
-    (signedRun false at at (refusal 9 at (pos b)) (b ∷ u)))
+    pick (eqb b dash) (signedRun true (at + 1) (refusal 10 at (pos 0)) u)
+    (pick (eqb b plus) (signedRun false (at + 1) (refusal 10 at (pos 0)) u)
+    (signedRun false at (refusal 9 at (pos b)) (b ∷ u)))
 
 abbrev pub theSigned : List ℕ → ℕ → SignedNumber
 theSigned s at = placed SignedNumber.Refused readSigned s at

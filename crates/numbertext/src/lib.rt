@@ -5,7 +5,7 @@
 ghost use mathlib.Core.Path.{_≡_};
 ghost use lib.ListN.{drop};
 ghost use Rattle.numbertext.specs.Promise.{NumberAt, SignedAt, DashAt, EndAt};
-ghost use Rattle.numbertext.specs.Reading.{endedAt, signedRun, limitOf};
+ghost use Rattle.numbertext.specs.Reading.{endedAt, signedRun, limitOf, wayOut};
 use digits::Run;
 use refusals::Refusal;
 use refusals::byte_refusal;
@@ -52,7 +52,7 @@ pub fn number_at(s: &[u8], at: usize) -> Number
 {
     match digits::run_at(s, at, 4_294_967_295) {
         Run::Value(n, next) => Number::Value(n as u32, next),
-        Run::Over => Number::Refused(refusal_at(11, at, 0)),
+        Run::Over(i) => Number::Refused(refusal_at(11, i, 0)),
         Run::Empty => {
             if at < s.len() {
                 Number::Refused(byte_refusal(9, at, s[at]))
@@ -74,17 +74,24 @@ fn limit(negative: bool) -> u32
     }
 }
 
-// The digits of a signed number stand at `first`, its first byte at `at`; `none` is the refusal where there is no digit.
-fn signed_run(s: &[u8], negative: bool, at: usize, first: usize, none: Refusal) -> SignedNumber
-    ensures { λ r. ⌜ r ≡ signedRun negative at first none (drop first (now (s .entry))) ⌝ }
+// Outside 32 bits: below them after a `-`, and above them without one.
+fn way_out(negative: bool) -> u32
+    ensures { λ r. ⌜ r ≡ wayOut negative ⌝ }
+{
+    if negative { 28 } else { 11 }
+}
+
+// The digits of a signed number stand at `first`; `none` is the refusal where there is no digit. A magnitude that the run tells always fits.
+fn signed_run(s: &[u8], negative: bool, first: usize, none: Refusal) -> SignedNumber
+    ensures { λ r. ⌜ r ≡ signedRun negative first none (drop first (now (s .entry))) ⌝ }
 {
     match digits::run_at(s, first, limit(negative)) {
         Run::Value(n, next) => match whole::signed(negative, n) {
             Narrowed::Fits(y) => SignedNumber::Value(y, next),
-            Narrowed::Above => SignedNumber::Refused(refusal_at(11, at, 0)),
-            Narrowed::Below => SignedNumber::Refused(refusal_at(11, at, 0)),
+            Narrowed::Above => SignedNumber::Refused(none),
+            Narrowed::Below => SignedNumber::Refused(none),
         },
-        Run::Over => SignedNumber::Refused(refusal_at(11, at, 0)),
+        Run::Over(i) => SignedNumber::Refused(refusal_at(way_out(negative), i, 0)),
         Run::Empty => SignedNumber::Refused(none),
     }
 }
@@ -96,12 +103,12 @@ pub fn signed_at(s: &[u8], at: usize) -> SignedNumber
     if at < s.len() {
         let b = s[at];
         if b == b'-' {
-            return signed_run(s, true, at, at + 1, refusal_at(10, at, 0));
+            return signed_run(s, true, at + 1, refusal_at(10, at, 0));
         }
         if b == b'+' {
-            return signed_run(s, false, at, at + 1, refusal_at(10, at, 0));
+            return signed_run(s, false, at + 1, refusal_at(10, at, 0));
         }
-        return signed_run(s, false, at, at, byte_refusal(9, at, b));
+        return signed_run(s, false, at, byte_refusal(9, at, b));
     }
     SignedNumber::Refused(ended_at(s, at, 8))
 }

@@ -95,8 +95,21 @@ same-length-7 : tie.Need-same-length-7
 same-length-7 c = search needs
 
 returns-7 : tie.Need-returns-7
+unfolding wordsOf bytes
+returns-7 c = rw (c .before .before .before .before .before .if7 .taken) (c .before .before .put-text7 .ensures)
+
+slice-aggregate-put-text-8 : tie.Need-slice-aggregate-put-text-8
+slice-aggregate-put-text-8 c = search needs
+
+put-text-requires-8 : tie.Need-put-text-requires-8
+put-text-requires-8 c κs = search needs
+
+same-length-8 : tie.Need-same-length-8
+same-length-8 c = search needs
+
+returns-8 : tie.Need-returns-8
 unfolding bytes
-returns-7 c = rw (words-made-up (c .before .before .before .before .before .before .before .before .before .before .before .before .args .number) (c .before .before .before .before .before .before .before .before .before .before .if1 .left) (c .before .before .before .before .before .before .before .before .before .if2 .left) (c .before .before .before .before .before .before .before .before .if3 .left) (c .before .before .before .before .before .before .before .if4 .left) (c .before .before .before .before .before .before .if5 .left) (c .before .before .before .before .before .if6 .left)) (c .before .before .put-text7 .ensures)
+returns-8 c = rw (words-made-up (c .before .before .before .before .before .before .before .before .before .before .before .before .before .args .number) (c .before .before .before .before .before .before .before .before .before .before .before .if1 .left) (c .before .before .before .before .before .before .before .before .before .before .if2 .left) (c .before .before .before .before .before .before .before .before .before .if3 .left) (c .before .before .before .before .before .before .before .before .if4 .left) (c .before .before .before .before .before .before .before .if5 .left) (c .before .before .before .before .before .before .if6 .left) (c .before .before .before .before .before .if7 .left)) (c .before .before .put-text8 .ensures)
 
 pub put-words-spec : {M : Type 1} → statement M
 put-words-spec =
@@ -129,4 +142,8 @@ put-words-spec =
     slice-aggregate-put-text-7
     put-text-requires-7
     same-length-7
-    returns-7)
+    returns-7
+    slice-aggregate-put-text-8
+    put-text-requires-8
+    same-length-8
+    returns-8)

@@ -26,6 +26,9 @@ shared-slice-read-b c = search needs
 is-digit-requires : tie.Need-is-digit-requires Inv-loop μ-loop
 is-digit-requires c κs = search needs
 
+add-next : tie.Need-add-next Inv-loop μ-loop
+add-next c = search needs
+
 mul-n : tie.Need-mul-n Inv-loop μ-loop
 mul-n c = omega arith
 
@@ -40,9 +43,6 @@ add-n c = let d : Digit (getD (c .before .before .before .before .before .before
 
 returns : tie.Need-returns Inv-loop μ-loop
 returns c = along-over (c .before .before .before .before .before .loop .inv) (c .before .before .before .before .loop-test .taken) (sym (c .before .before .is-digit .ensures) ∙ c .before .if1 .taken) (c .if2 .taken)
-
-add-i : tie.Need-add-i Inv-loop μ-loop
-add-i c = search needs
 
 loop-less : tie.Need-loop-less Inv-loop μ-loop
 loop-less c = search needs
@@ -72,11 +72,11 @@ run-at-spec =
     shared-slice-read-b
     cast-b
     is-digit-requires
+    add-next
     mul-n
     sub-n
     add-n
     returns
-    add-i
     loop-less
     loop-again
     run-ends-requires

@@ -17,20 +17,20 @@ run-at-requires c κs = search needs
 enum-known-n : tie.Need-enum-known-n
 enum-known-n c = search needs
 
-cast-t7 : tie.Need-cast-t7
-cast-t7 c = record { fits = le-lt (run-within _ _ _ (sym (c .before .before .before .run-at .ensures) ∙ c .before .n .given .1)) }
+cast-t8 : tie.Need-cast-t8
+cast-t8 c = record { fits = le-lt (run-within _ _ _ (sym (c .before .before .before .run-at .ensures) ∙ c .before .n .given .1)) }
   where
     le-lt : {n : ℕ} → n ≤ 4294967295 → n < 2 ^ 32
     le-lt h = omega arith
 
-enum-told : tie.Need-enum-told
-enum-told c = search needs
+enum-known-i : tie.Need-enum-known-i
+enum-known-i c = search needs
 
 refusal-at-requires : tie.Need-refusal-at-requires
 refusal-at-requires c κs = search needs
 
-enum-told-2 : tie.Need-enum-told-2
-enum-told-2 c = search needs
+enum-told : tie.Need-enum-told
+enum-told c = search needs
 
 shared-slice-read-byte-refusal : tie.Need-shared-slice-read-byte-refusal
 shared-slice-read-byte-refusal c = search needs
@@ -45,10 +45,10 @@ returns : tie.Need-returns
 returns c = number-meant (sym (number-value _ _ (c .before .before .before .run-at .ensures) (c .before .n .given .1)))
 
 returns-2 : tie.Need-returns-2
-returns-2 c = number-meant (ap Number.Refused (c .refusal-at .ensures) ∙ sym (number-over _ _ (c .before .before .before .run-at .ensures) (c .before .enum-told .given .1)))
+returns-2 c = number-meant (ap Number.Refused (c .refusal-at .ensures) ∙ sym (number-over _ _ (c .before .before .before .before .run-at .ensures) (c .before .before .i .given .1)))
 
 returns-3 : tie.Need-returns-3
-returns-3 c = number-meant (ap Number.Refused (c .byte-refusal .ensures) ∙ sym (number-other _ _ (c .before .before .before .before .before .run-at .ensures) (c .before .before .before .enum-told2 .given .1) (c .before .before .if1 .taken)))
+returns-3 c = number-meant (ap Number.Refused (c .byte-refusal .ensures) ∙ sym (number-other _ _ (c .before .before .before .before .before .run-at .ensures) (c .before .before .before .enum-told .given .1) (c .before .before .if1 .taken)))
 
 returns-4 : tie.Need-returns-4
 returns-4 c = number-meant (ap Number.Refused (c .ended-at .ensures) ∙ sym (number-end _ _ (c .before .if1 .left)))
@@ -59,10 +59,10 @@ number-at-spec =
     (tie.spec
     run-at-requires
     enum-known-n
-    cast-t7
-    enum-told
+    cast-t8
+    enum-known-i
     refusal-at-requires
-    enum-told-2
+    enum-told
     shared-slice-read-byte-refusal
     byte-refusal-requires
     ended-at-requires

@@ -21,7 +21,7 @@ signed-run-requires : tie.Need-signed-run-requires
 signed-run-requires c κs = search needs
 
 returns : tie.Need-returns
-returns c = signed-meant (c .signed-run .ensures ∙ signed-none _ _ _ _ (c .before .refusal-at .ensures) ∙ sym (signed-dash _ _ (c .before .before .before .before .if1 .taken) (c .before .before .if2 .taken)))
+returns c = signed-meant (c .signed-run .ensures ∙ signed-none _ _ _ (c .before .refusal-at .ensures) ∙ sym (signed-dash _ _ (c .before .before .before .before .if1 .taken) (c .before .before .if2 .taken)))
 
 add-signed-run-2 : tie.Need-add-signed-run-2
 add-signed-run-2 c = search needs
@@ -33,7 +33,7 @@ signed-run-requires-2 : tie.Need-signed-run-requires-2
 signed-run-requires-2 c κs = search needs
 
 returns-2 : tie.Need-returns-2
-returns-2 c = signed-meant (c .signed-run2 .ensures ∙ signed-none _ _ _ _ (c .before .refusal-at2 .ensures) ∙ sym (signed-plus _ _ (c .before .before .before .before .before .if1 .taken) (c .before .before .before .if2 .left) (c .before .before .if3 .taken)))
+returns-2 c = signed-meant (c .signed-run2 .ensures ∙ signed-none _ _ _ (c .before .refusal-at2 .ensures) ∙ sym (signed-plus _ _ (c .before .before .before .before .before .if1 .taken) (c .before .before .before .if2 .left) (c .before .before .if3 .taken)))
 
 byte-refusal-requires : tie.Need-byte-refusal-requires
 byte-refusal-requires c κs = search needs
@@ -42,7 +42,7 @@ signed-run-requires-3 : tie.Need-signed-run-requires-3
 signed-run-requires-3 c κs = search needs
 
 returns-3 : tie.Need-returns-3
-returns-3 c = signed-meant (c .signed-run3 .ensures ∙ signed-none _ _ _ _ (c .before .byte-refusal .ensures) ∙ sym (signed-plain _ _ (c .before .before .before .before .before .if1 .taken) (c .before .before .before .if2 .left) (c .before .before .if3 .left)))
+returns-3 c = signed-meant (c .signed-run3 .ensures ∙ signed-none _ _ _ (c .before .byte-refusal .ensures) ∙ sym (signed-plain _ _ (c .before .before .before .before .before .if1 .taken) (c .before .before .before .if2 .left) (c .before .before .if3 .left)))
 
 ended-at-requires : tie.Need-ended-at-requires
 ended-at-requires c κs = search needs

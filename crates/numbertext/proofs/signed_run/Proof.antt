@@ -1,8 +1,7 @@
 -- `numbertext::signed_run` meets its promise: the magnitude that the run tells is in the range, so that `whole::signed` brings it into 32 bits.
 -- Assumes nothing.
-use mathlib.Core.Path.{sym, ap, _∙_}
-use Rattle.numbertext.specs.Places.{signed-as, signed-value, never-above, never-below}
-use Rattle.numbertext.specs.declared.SignedNumber.{SignedNumber}
+use mathlib.Core.Path.{sym}
+use Rattle.numbertext.specs.Places.{signed-as, signed-over, signed-value, never-above, never-below}
 use borrow.Author.Needs.{needs}
 use Rattle.numbertext.proofs.signed_run.Statement.{statement}
 use Rattle.numbertext.proofs.signed_run.Tie as tie
@@ -25,38 +24,35 @@ enum-known-y c = search needs
 enum-told : tie.Need-enum-told
 enum-told c = search needs
 
-refusal-at-requires : tie.Need-refusal-at-requires
-refusal-at-requires c κs = search needs
-
 enum-told-2 : tie.Need-enum-told-2
 enum-told-2 c = search needs
 
-refusal-at-requires-2 : tie.Need-refusal-at-requires-2
-refusal-at-requires-2 c κs = search needs
+enum-known-i : tie.Need-enum-known-i
+enum-known-i c = search needs
+
+way-out-requires : tie.Need-way-out-requires
+way-out-requires c κs = search needs
+
+refusal-at-requires : tie.Need-refusal-at-requires
+refusal-at-requires c κs = search needs
 
 enum-told-3 : tie.Need-enum-told-3
 enum-told-3 c = search needs
 
-refusal-at-requires-3 : tie.Need-refusal-at-requires-3
-refusal-at-requires-3 c κs = search needs
-
-enum-told-4 : tie.Need-enum-told-4
-enum-told-4 c = search needs
-
 returns : tie.Need-returns
-returns c = signed-value _ _ _ _ _ (c .before .before .before .before .before .before .before .before .limit .ensures) (c .before .before .before .before .before .before .before .run-at .ensures) (c .before .before .before .before .before .n .given .1) (c .before .before .before .signed .ensures) (c .before .y .given .1)
+returns c = signed-value _ _ _ _ (c .before .before .before .before .before .before .before .before .limit .ensures) (c .before .before .before .before .before .before .before .run-at .ensures) (c .before .before .before .before .before .n .given .1) (c .before .before .before .signed .ensures) (c .before .y .given .1)
 
 returns-2 : tie.Need-returns-2
-returns-2 c = never-above _ _ _ _ _ (c .before .before .before .before .before .before .before .before .limit .ensures) (c .before .before .before .before .before .before .before .run-at .ensures) (c .before .before .before .before .before .n .given .1) (c .before .before .before .signed .ensures) (c .before .enum-told .given .1)
+returns-2 c = never-above _ _ _ _ (c .before .before .before .before .before .before .before .limit .ensures) (c .before .before .before .before .before .before .run-at .ensures) (c .before .before .before .before .n .given .1) (c .before .before .signed .ensures) (c .enum-told .given .1)
 
 returns-3 : tie.Need-returns-3
-returns-3 c = never-below _ _ _ _ _ (c .before .before .before .before .before .before .before .before .limit .ensures) (c .before .before .before .before .before .before .before .run-at .ensures) (c .before .before .before .before .before .n .given .1) (c .before .before .before .signed .ensures) (c .before .enum-told2 .given .1)
+returns-3 c = never-below _ _ _ _ (c .before .before .before .before .before .before .before .limit .ensures) (c .before .before .before .before .before .before .run-at .ensures) (c .before .before .before .before .n .given .1) (c .before .before .signed .ensures) (c .enum-told2 .given .1)
 
 returns-4 : tie.Need-returns-4
-returns-4 c = ap SignedNumber.Refused (c .refusal-at3 .ensures) ∙ sym (signed-as _ _ _ _ _ (c .before .before .before .before .limit .ensures) (c .before .before .before .run-at .ensures) (c .before .enum-told3 .given .1))
+returns-4 c = signed-over _ _ _ _ (c .before .before .before .before .before .before .limit .ensures) (c .before .before .before .before .before .run-at .ensures) (c .before .before .before .i .given .1) (c .before .way-out .ensures) (c .refusal-at .ensures)
 
 returns-5 : tie.Need-returns-5
-returns-5 c = sym (signed-as _ _ _ _ _ (c .before .before .before .limit .ensures) (c .before .before .run-at .ensures) (c .enum-told4 .given .1))
+returns-5 c = sym (signed-as _ _ _ _ (c .before .before .before .limit .ensures) (c .before .before .run-at .ensures) (c .enum-told3 .given .1))
 
 pub signed-run-spec : {M : Type 1} → statement M
 signed-run-spec =
@@ -68,12 +64,11 @@ signed-run-spec =
     signed-requires
     enum-known-y
     enum-told
-    refusal-at-requires
     enum-told-2
-    refusal-at-requires-2
+    enum-known-i
+    way-out-requires
+    refusal-at-requires
     enum-told-3
-    refusal-at-requires-3
-    enum-told-4
     returns
     returns-2
     returns-3
