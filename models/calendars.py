@@ -89,10 +89,17 @@ def first_with(c, n, parts):
     return FIRST[c, year_or_month]
 
 
+def style(c, n):
+    """J on days with their Julian label, G on days with their Gregorian one."""
+    if c in ('J', 'G'):
+        return c
+    return 'J' if n < c else 'G'
+
+
 def record(c, n):
-    """year, ordinal, month, day, day ordinal, day number."""
+    """year, ordinal, month, day, day ordinal, day number, style."""
     y, m, d = label(c, n)
-    return (y, n - first_with(c, n, 1) + 1, m, d, n - first_with(c, n, 2) + 1, n)
+    return (y, n - first_with(c, n, 1) + 1, m, d, n - first_with(c, n, 2) + 1, n, style(c, n))
 
 
 def bearer(c, lab):

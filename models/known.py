@@ -27,7 +27,7 @@ def date(c, fields):
     """An answer with the record of a day number, or with the fields that stand after `=`; and the fields after the date."""
     if fields[0] == b'=':
         n, y, o, m, d, k = map(int, fields[1:7])
-        return ('=', y, o, m, d, k, n), fields[7:]
+        return ('=', y, o, m, d, k, n, fields[7].decode()), fields[8:]
     if not accepted(c):
         return refused(16), fields[1:]
     return ('=',) + record(c, int(fields[0])), fields[1:]
@@ -36,20 +36,15 @@ def date(c, fields):
 # ---- fields of an answer
 
 def numbers(rec):
-    y, o, m, d, k, n = rec
-    return [n, y, o, m, d, k]
-
-
-def is_julian(c, n):
-    return c == 'J' or (c != 'G' and n < c)
+    y, o, m, d, k, n, style = rec
+    return [n, y, o, m, d, k, style]
 
 
 def told(c, answer):
     """A record with style and weekday, or the refusal."""
     if answer[0] == '!':
         return list(answer)
-    n = answer[6]
-    return numbers(answer[1:]) + ['J' if is_julian(c, n) else 'G', n % 7 + 1]
+    return numbers(answer[1:]) + [answer[6] % 7 + 1]
 
 
 def genuine(c, rec):
@@ -85,8 +80,7 @@ def about_date(key, c, answer, fields):
     if key == b'zero':
         return if_genuine(c, rec, rec[1] - 1, rec[4] - 1)
     if key == b'genuine':
-        julian = is_julian(c, n)
-        return [int(genuine(c, rec))] + if_genuine(c, rec, n % 7 + 1, int(julian), int(not julian))
+        return [int(genuine(c, rec))] + if_genuine(c, rec, n % 7 + 1, int(rec[6] == 'J'), int(rec[6] == 'G'))
     if key == b'conv':
         to, fault = calendar(fields[0])
         if fault:

@@ -21,13 +21,13 @@ def dated(name, text, houses):
 def columns(told):
     if told[0] == '!':
         return told
-    y, ordinal, m, d, _, n = told[1:]
-    return (n, y, ordinal, m, d, n % 7 + 1)
+    y, ordinal, m, d, _, n, style = told[1:]
+    return (n, y, ordinal, m, d, n % 7 + 1, {'J': 'OS', 'G': 'NS'}[style])
 
 
 def written(answers):
     """The header, and a line for each answer."""
-    lines = [('jdn', 'year', 'ordinal', 'month', 'day', 'weekday'), *map(columns, answers)]
+    lines = [('jdn', 'year', 'ordinal', 'month', 'day', 'weekday', 'style'), *map(columns, answers)]
     return ''.join('\t'.join(map(str, line)) + '\n' for line in lines).encode()
 
 

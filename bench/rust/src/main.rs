@@ -35,7 +35,7 @@ fn raised(x: i32) -> u64 {
 fn fields(d: &Date) -> u64 {
     let low = raised(d.julian_day_number()) ^ (d.ordinal() as u64) << 32 ^ (d.month().number() as u64) << 44;
     let high = (d.day() as u64) << 50 ^ (d.day_ordinal() as u64) << 56 ^ raised(d.year()) << 12;
-    low ^ high
+    low ^ high ^ (d.is_gregorian() as u64) << 62
 }
 
 // The sum of one call for each input, so many rounds.

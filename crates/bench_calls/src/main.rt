@@ -7,6 +7,7 @@ ghost use lib.ListN.{length};
 use calendar::Calendar;
 use calendar::Date;
 use calendar::Dated;
+use calendar::Style;
 use libc::STDIN_FILENO;
 use libc::STDOUT_FILENO;
 use numbertext::Number;
@@ -52,6 +53,8 @@ fn put_counts(counts: &mut [u32], i: usize, d: Date)
     set_count(counts, 8 * i + 1, d.month);
     set_count(counts, 8 * i + 2, d.day);
     set_count(counts, 8 * i + 3, d.day_ordinal);
+    let style = d.style;
+    set_count(counts, 8 * i + 5, style_bit(style));
 }
 
 fn set_byte(text: &mut [u8], at: usize, b: u8) {
@@ -133,13 +136,28 @@ fn plus(a: u64, b: u64) -> u64 {
     std::num::wrapping_add_u64(a, b)
 }
 
+fn style_bit(style: Style) -> u32 {
+    match style {
+        Style::Julian => 0,
+        Style::Gregorian => 1,
+    }
+}
+
+fn style_of(bit: u32) -> Style {
+    if bit == 0 {
+        return Style::Julian;
+    }
+    Style::Gregorian
+}
+
 // The fields at places of their own in 64 bits, so that each of them has to be there.
 fn fields(d: Date) -> u64 {
+    let style = d.style;
     let low = whole::raised(d.jdn) as u64 ^ ((d.ordinal as u64) << 32) ^ ((d.month as u64) << 44);
     let high = ((d.day as u64) << 50)
         ^ ((d.day_ordinal as u64) << 56)
         ^ ((whole::raised(d.year) as u64) << 12);
-    low ^ high
+    low ^ high ^ ((style_bit(style) as u64) << 62)
 }
 
 fn added(sum: u64, answer: Dated) -> u64 {
@@ -156,6 +174,7 @@ fn date_at(calendar: Calendar, signs: &[i32], counts: &[u32], i: usize) -> Date
 {
     Date {
         calendar: calendar,
+        style: style_of(counts[8 * i + 5]),
         year: signs[2 * i + 1],
         ordinal: counts[8 * i],
         month: counts[8 * i + 1],

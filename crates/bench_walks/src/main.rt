@@ -5,6 +5,7 @@
 use calendar::Calendar;
 use calendar::Date;
 use calendar::Dated;
+use calendar::Style;
 use libc::STDIN_FILENO;
 use libc::STDOUT_FILENO;
 use numbertext::Number;
@@ -17,12 +18,20 @@ fn plus(a: u64, b: u64) -> u64 {
     std::num::wrapping_add_u64(a, b)
 }
 
+fn style_bit(style: Style) -> u32 {
+    match style {
+        Style::Julian => 0,
+        Style::Gregorian => 1,
+    }
+}
+
 fn fields(d: Date) -> u64 {
+    let style = d.style;
     let low = whole::raised(d.jdn) as u64 ^ ((d.ordinal as u64) << 32) ^ ((d.month as u64) << 44);
     let high = ((d.day as u64) << 50)
         ^ ((d.day_ordinal as u64) << 56)
         ^ ((whole::raised(d.year) as u64) << 12);
-    low ^ high
+    low ^ high ^ ((style_bit(style) as u64) << 62)
 }
 
 fn added(sum: u64, answer: Dated) -> u64 {

@@ -3,9 +3,11 @@ use mathlib.Core.Path.{_≡_}
 use mathlib.Core.Bool.{Bool, true, false}
 use lib.IntN.{ℤ}
 use Rattle.days.specs.DayByDay as D
-use Rattle.days.specs.DayByDay.{Label, label, Timeline, labelsIn, Ordinal, DayOrdinal, Style, JulianStyle, GregorianStyle}
+use Rattle.days.specs.DayByDay.{Label, label, Timeline, labelsIn, styleIn, Ordinal, DayOrdinal, JulianStyle, GregorianStyle}
 use Rattle.calendar.specs.declared.Calendar.{Calendar}
 use Rattle.calendar.specs.declared.Calendar.the-variants.{Julian, Gregorian, Reforming}
+use Rattle.calendar.specs.declared.Style.{Style}
+use Rattle.calendar.specs.declared.Style.the-variants as Style′
 use Rattle.calendar.specs.declared.Date.{Date}
 
 -- the calendar of the definition that it is
@@ -30,9 +32,15 @@ Skipped c l = D.Skipped (definitionOf c) l
 abbrev pub Missing : Calendar → Label → Type 0
 Missing c l = D.Missing (definitionOf c) l
 
--- d is the record of day n in the timeline t, which its records call c: calendar, year, ordinal, month, day, day ordinal, day number
+-- the style that records name so
+abbrev pub styleOf : D.Style → Style
+styleOf JulianStyle = Style′.Julian
+styleOf GregorianStyle = Style′.Gregorian
+
+-- d is the record of day n in the timeline t, which its records call c: calendar, style, year, ordinal, month, day, day ordinal, day number
 pub record IsRecordIn (t : Timeline) (c : Calendar) (n : ℤ) (d : Date) : Type 0 where
   pub calendar-is : d .calendar ≡ c
+  pub style-is : d .style ≡ styleOf (styleIn t n)
   pub label-is : labelsIn t n ≡ label (d .year) (d .month) (d .day)
   pub ordinal-is : Ordinal (labelsIn t) n (d .ordinal)
   pub day-ordinal-is : DayOrdinal (labelsIn t) n (d .«day_ordinal»)
@@ -54,12 +62,12 @@ isReforming Gregorian = false
 isReforming (Reforming r) = true
 
 -- one kind of label is another
-abbrev pub sameStyle : Style → Style → Bool
+abbrev pub sameStyle : D.Style → D.Style → Bool
 sameStyle JulianStyle JulianStyle = true
 sameStyle JulianStyle GregorianStyle = false
 sameStyle GregorianStyle JulianStyle = false
 sameStyle GregorianStyle GregorianStyle = true
 
 -- whether the label of a record is of this kind
-abbrev pub styleIs : Style → Date → Bool
+abbrev pub styleIs : D.Style → Date → Bool
 styleIs s d = sameStyle s (D.style (definitionOf (d .calendar)) (d .jdn))

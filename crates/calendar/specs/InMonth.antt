@@ -13,11 +13,13 @@ use Rattle.whole.specs.Whether.{Whether}
 use Rattle.whole.specs.Tests.{true-or-false}
 use Rattle.whole.specs.Biased.{unbias-suc, unbias-back, unbias-injective}
 use Rattle.whole.specs.Promise.{unbias}
-use Rattle.days.specs.DayByDay.{Label, label, Is32Bit, Month, Borne, monthLength}
+use Rattle.days.specs.DayByDay.{Label, label, style, Is32Bit, Month, Borne, monthLength}
 use Rattle.days.specs.RisingLabels.{once}
 use Rattle.days.specs.ReckoningSteps.{month-least}
 use Rattle.days.specs.ClosedEnds.{suc-is, pred-is}
 use Rattle.days.specs.BiasedDays.{dayBias, yearBias, day, year, BiasedYear}
+use Rattle.days.specs.ClosedJulian as J
+use Rattle.days.specs.ClosedGregorian as G
 use Rattle.days.specs.ClosedNumbers.{daysBefore, ThereIn}
 use Rattle.days.specs.AcceptedCalendars.{accepted-rises}
 use Rattle.days.specs.ClosedRuns.{Runs, runs-one, on-none}
@@ -29,7 +31,7 @@ use Rattle.monthdays.specs.declared.DayOrdinal.the-variants as DayOrdinal′
 use Rattle.switches.specs.declared.PlainYear.{PlainYear}
 use Rattle.switches.specs.Promise.{YearIn}
 use Rattle.switches.specs.One.{year-in-one}
-use Rattle.switches.specs.Laws.{Wholly, year-wholly, wholly-none, ordinal-sum, ordinal-some, ordinal-none}
+use Rattle.switches.specs.Laws.{Wholly, wholly-old, wholly-new, year-wholly, wholly-none, ordinal-sum, ordinal-some, ordinal-none}
 use Rattle.ways.specs.Promise.{beside, Inside}
 use Rattle.ways.specs.Laws.{room-up, room-down}
 use Rattle.calendar.specs.declared.Calendar.{Calendar}
@@ -37,12 +39,12 @@ use Rattle.calendar.specs.declared.Date.{Date}
 use Rattle.calendar.specs.declared.Dated.the-variants as Dated′
 use Rattle.calendar.specs.declared.Near.{Near}
 use Rattle.calendar.specs.declared.Near.the-variants as Near′
-use Rattle.calendar.specs.Calendars.{definitionOf, labels, IsRecord, Genuine}
+use Rattle.calendar.specs.Calendars.{definitionOf, labels, styleOf, IsRecord, Genuine}
 use Rattle.calendar.specs.Rows.{passes}
 use Rattle.calendar.specs.Promise.{record-of, Next}
 use Rattle.calendar.specs.One.{whole, record-one}
-use Rattle.calendar.specs.Natural.{OnSpot, Plain, plainRecord}
-use Rattle.calendar.specs.Laws.{labelled-is, labelled-room, record-plain, whole-label, whole-there}
+use Rattle.calendar.specs.Natural.{OnSpot, Plain, plainRecord, styleAt, styleNumber}
+use Rattle.calendar.specs.Laws.{old-style, new-style, style-at, labelled-is, labelled-room, record-plain, style-number-one, whole-label, whole-there}
 
 -- ---- What is promised
 -- the year of a date is wholly in one reckoning
@@ -69,7 +71,7 @@ oneOn true n = n + 1
 oneOn false n = n - 1
 
 abbrev pub movedBy : Bool → Date → Date
-movedBy l d = record { calendar = d .calendar; year = d .year; ordinal = oneOn l (d .ordinal); month = d .month; day = oneOn l (d .day); «day_ordinal» = oneOn l (d .«day_ordinal»); jdn = beside l (d .jdn) }
+movedBy l d = record { calendar = d .calendar; year = d .year; ordinal = oneOn l (d .ordinal); month = d .month; day = oneOn l (d .day); «day_ordinal» = oneOn l (d .«day_ordinal»); jdn = beside l (d .jdn); style = d .style }
 
 -- next_in_month: that record, and then it is the answer of succ or pred too; or nothing yet
 pub data NextInMonth (l : Bool) (d : Date) : Near → Type 0 where
@@ -97,13 +99,14 @@ IsUsual d true = Usual d
 IsUsual d false = ¬ (Genuine d × WholeYear d)
 
 -- the numbers of a date in a year that is wholly in one reckoning
-pub record On (d : Date) (past o : ℕ) : Type 0 where
+pub record On (d : Date) (r past o : ℕ) : Type 0 where
   pub ordinal-is : d .ordinal ≡ o
   pub day-ordinal-is : d .«day_ordinal» ≡ d .day
+  pub style-is : d .style ≡ styleAt r (past - 1)
   pub day-is : day (past - 1) ≡ d .jdn
 
-abbrev pub IsOn : Date → ℕ → ℕ → Bool → Type 0
-IsOn d past o = Whether (On d past o)
+abbrev pub IsOn : Date → ℕ → ℕ → ℕ → Bool → Type 0
+IsOn d r past o = Whether (On d r past o)
 
 abbrev pub OneOn : Bool → ℕ → Type 0
 OneOn true n = n + 1 < 2 ^ 32
@@ -111,6 +114,15 @@ OneOn false n = 1 ≤ n
 
 abbrev pub Movable : Bool → Date → Type 0
 Movable l d = OneOn l (d .ordinal) × OneOn l (d .day) × OneOn l (d .«day_ordinal») × Is32Bit (beside l (d .jdn))
+
+-- ---- The style of the days of a year
+-- it is one style, where the year is wholly in one reckoning
+year-style : {r y t : ℕ} {b : Bool} (i o : ℕ) → Wholly r y t b → (1 ≤ i) × (i ≤ 366) → (1 ≤ o) × (o ≤ 366) → styleAt r (t + i - 1) ≡ styleAt r (t + o - 1)
+year-style {y = y} i o (wholly-old g) (h, k) (f, u) = sym (old-style (J.start y + i - 1) (omega arith)) ∙ old-style (J.start y + o - 1) (omega arith)
+year-style {y = y} i o (wholly-new z g) (h, k) (f, u) = sym (new-style (G.start y + i - 1) (after (G.start y) i g h)) ∙ new-style (G.start y + o - 1) (after (G.start y) o g f)
+  where
+    after : {r : ℕ} (s i : ℕ) → r ≤ s → 1 ≤ i → r ≤ s + i - 1
+    after s i g h = omega arith
 
 -- ---- A date in a year that is wholly in one reckoning, by its label
 module _ (d : Date) {r : ℕ} (y : ℕ) (runs : Runs (definitionOf (d .calendar)) r) (h : BiasedYear (biasedYear y)) (e : year (biasedYear y) ≡ d .year) where
@@ -123,27 +135,32 @@ module _ (d : Date) {r : ℕ} (y : ℕ) (runs : Runs (definitionOf (d .calendar)
     abbrev here : OnSpot r (spot (t + o - 1) y o (d .month) (d .day)) × Plain r (spot (t + o - 1) y o (d .month) (d .day))
     here = whole-label y h w p
 
-    record-here : day (t + o - 1) ≡ d .jdn → IsRecord (d .calendar) (d .jdn) (plainRecord (d .calendar) (spot (t + o - 1) y o (d .month) (d .day)) (d .jdn))
-    record-here q = record-plain (d .calendar) runs (spot (t + o - 1) y o (d .month) (d .day)) (here .0) q (here .1)
+    -- the style of a day of this year
+    style-of : (i : ℕ) {m n : ℕ} → OnSpot r (spot (t + i - 1) y i m n) → styleOf (style (definitionOf (d .calendar)) (day (t + i - 1))) ≡ styleAt r (t + i - 1)
+    style-of i l = style-at (d .calendar) runs (omega (arith, labelled-room l))
 
-    pub on-genuine : On d (t + o) o → Genuine d
+    record-here : day (t + o - 1) ≡ d .jdn → IsRecord (d .calendar) (d .jdn) (plainRecord (d .calendar) (styleAt r (t + o - 1)) (spot (t + o - 1) y o (d .month) (d .day)) (d .jdn))
+    record-here q = record-plain (d .calendar) runs (spot (t + o - 1) y o (d .month) (d .day)) (here .0) q (style-of o (here .0)) (here .1)
+
+    pub on-genuine : On d r (t + o) o → Genuine d
     unfolding whole
     on-genuine q = record { accepted = runs .accepted; is-record = subst (IsRecord (d .calendar) (d .jdn)) same (record-here (q .day-is)) }
       where
-        same : plainRecord (d .calendar) (spot (t + o - 1) y o (d .month) (d .day)) (d .jdn) ≡ d
+        same : plainRecord (d .calendar) (styleAt r (t + o - 1)) (spot (t + o - 1) y o (d .month) (d .day)) (d .jdn) ≡ d
         same =
             let f : d .ordinal ≡ o = q .ordinal-is in
             let g : d .«day_ordinal» ≡ d .day = q .day-ordinal-is in
             let i : year (biasedYear y) ≡ d .year = e in
-            let x : whole (d .calendar) (year (biasedYear y)) o (d .month) (d .day) (d .day) (d .jdn) ≡ whole (d .calendar) (d .year) (d .ordinal) (d .month) (d .day) (d .«day_ordinal») (d .jdn) = cc in
+            let v : d .style ≡ styleAt r (t + o - 1) = q .style-is in
+            let x : whole (d .calendar) (year (biasedYear y)) o (d .month) (d .day) (d .day) (d .jdn) (styleAt r (t + o - 1)) ≡ whole (d .calendar) (d .year) (d .ordinal) (d .month) (d .day) (d .«day_ordinal») (d .jdn) (d .style) = cc in
             x
 
-    pub genuine-on : Genuine d → On d (t + o) o
+    pub genuine-on : Genuine d → On d r (t + o) o
     genuine-on g =
         let l : labels (d .calendar) (day (t + o - 1)) ≡ label (d .year) (d .month) (d .day) = labelled-is (d .calendar) runs (here .0) ∙ ap (λ (z : ℤ). label z (d .month) (d .day)) e in
         let q : day (t + o - 1) ≡ d .jdn = once (accepted-rises (runs .accepted)) (l ∙ sym (g .is-record .label-is)) in
         let i = record-one (g .is-record) (record-here q) in
-        record { ordinal-is = ap (λ (x : Date). x .ordinal) i; day-ordinal-is = ap (λ (x : Date). x .«day_ordinal») i; day-is = q }
+        record { ordinal-is = ap (λ (x : Date). x .ordinal) i; day-ordinal-is = ap (λ (x : Date). x .«day_ordinal») i; style-is = ap (λ (x : Date). x .style) i; day-is = q }
 
     -- the record next to it
     next-there : (l : Bool) → Inside l (d .day) → ThereIn b (d .month) (d .day) → ThereIn b (d .month) (oneOn l (d .day))
@@ -170,24 +187,30 @@ module _ (d : Date) {r : ℕ} (y : ℕ) (runs : Runs (definitionOf (d .calendar)
         down : (t : ℕ) → 2 ≤ o → t + (o - 1) - 1 ≡ t + o - 1 - 1
         down t h = omega arith
 
-    next-record : On d (t + o) o → (l : Bool) → Inside l (d .day) → IsRecord (d .calendar) (beside l (d .jdn)) (movedBy l d)
+    next-record : On d r (t + o) o → (l : Bool) → Inside l (d .day) → IsRecord (d .calendar) (beside l (d .jdn)) (movedBy l d)
     unfolding whole
     next-record q l i =
         let (v, f) = ordinal-sum p in
         let (u, k) = whole-there y h w (next-there l i v) (next-ordinal l i f) in
         subst (IsRecord (d .calendar) (beside l (d .jdn))) same
-        (record-plain (d .calendar) runs (spot (t + oneOn l o - 1) y (oneOn l o) (d .month) (oneOn l (d .day))) u (next-day l i (v .2) f (q .day-is)) k)
+        (record-plain (d .calendar) runs (spot (t + oneOn l o - 1) y (oneOn l o) (d .month) (oneOn l (d .day))) u (next-day l i (v .2) f (q .day-is)) (style-of (oneOn l o) u ∙ goes-on u) k)
       where
-        same : plainRecord (d .calendar) (spot (t + oneOn l o - 1) y (oneOn l o) (d .month) (oneOn l (d .day))) (beside l (d .jdn)) ≡ movedBy l d
+        goes-on : OnSpot r (spot (t + oneOn l o - 1) y (oneOn l o) (d .month) (oneOn l (d .day))) → styleAt r (t + oneOn l o - 1) ≡ d .style
+        goes-on u =
+            let m = labelled-room (here .0) in
+            let n = labelled-room u in
+            year-style (oneOn l o) o w (n .1, n .2) (m .1, m .2) ∙ sym (q .style-is)
+
+        same : plainRecord (d .calendar) (d .style) (spot (t + oneOn l o - 1) y (oneOn l o) (d .month) (oneOn l (d .day))) (beside l (d .jdn)) ≡ movedBy l d
         same =
             let f : oneOn l o ≡ oneOn l (d .ordinal) = ap (oneOn l) (sym (q .ordinal-is)) in
             let g : oneOn l (d .day) ≡ oneOn l (d .«day_ordinal») = ap (oneOn l) (sym (q .day-ordinal-is)) in
             let i : year (biasedYear y) ≡ d .year = e in
-            let x : whole (d .calendar) (year (biasedYear y)) (oneOn l o) (d .month) (oneOn l (d .day)) (oneOn l (d .day)) (beside l (d .jdn))
-            ≡ whole (d .calendar) (d .year) (oneOn l (d .ordinal)) (d .month) (oneOn l (d .day)) (oneOn l (d .«day_ordinal»)) (beside l (d .jdn)) = cc in
+            let x : whole (d .calendar) (year (biasedYear y)) (oneOn l o) (d .month) (oneOn l (d .day)) (oneOn l (d .day)) (beside l (d .jdn)) (d .style)
+            ≡ whole (d .calendar) (d .year) (oneOn l (d .ordinal)) (d .month) (oneOn l (d .day)) (oneOn l (d .«day_ordinal»)) (beside l (d .jdn)) (d .style) = cc in
             x
 
-    pub on-usual : WholeYear d → On d (t + o) o → Usual d
+    pub on-usual : WholeYear d → On d r (t + o) o → Usual d
     on-usual a q =
         let n = labelled-room (here .0) in
         record {
@@ -199,7 +222,7 @@ module _ (d : Date) {r : ℕ} (y : ℕ) (runs : Runs (definitionOf (d .calendar)
           next = next-record q;
         }
 
-    pub usual-by : WholeYear d → (b : Bool) → IsOn d (t + o) o b → IsUsual d b
+    pub usual-by : WholeYear d → (b : Bool) → IsOn d r (t + o) o b → IsUsual d b
     usual-by a true q = on-usual a q
     usual-by a false n = λ g. n (genuine-on (g .0))
 
@@ -214,17 +237,26 @@ not-whole d {r} y {p} runs e i f w =
 
 -- ---- The answer, from the parts
 -- whether a date has these numbers is told by comparing them
-pub on-by : (d : Date) (x past : ℕ) {o : ℕ} → unbias (2 ^ 31) x ≡ d .jdn → d .ordinal ≡ o → d .«day_ordinal» ≡ d .day → IsOn d past o (eqb (biasedDay x + 1) past)
-on-by d x past {o} e f g = ⊎-elim
-    (λ t. subst (IsOn d past o) (sym t) (record { ordinal-is = f; day-ordinal-is = g; day-is = ap (λ (k : ℕ). day (k - 1)) (sym (eqb-true (biasedDay x + 1) past t)) ∙ ap day (back (biasedDay x)) ∙ biased-day x ∙ e }))
-    (λ t. subst (IsOn d past o) (sym t) (λ q. eqb-false (biasedDay x + 1) past t (up (unbias-injective dayBias (past - 1) (biasedDay x) (q .day-is ∙ sym (biased-day x ∙ e))))))
-    (true-or-false (eqb (biasedDay x + 1) past))
-  where
-    back : (k : ℕ) → k + 1 - 1 ≡ k
-    back k = omega arith
+module _ (d : Date) (r x past : ℕ) {o : ℕ} (e : unbias (2 ^ 31) x ≡ d .jdn) where
+  pub on-day : On d r past o → biasedDay x + 1 ≡ past
+  on-day q = up (unbias-injective dayBias (past - 1) (biasedDay x) (q .day-is ∙ sym (biased-day x ∙ e)))
+    where
+      up : past - 1 ≡ biasedDay x → biasedDay x + 1 ≡ past
+      up e = omega arith
 
-    up : past - 1 ≡ biasedDay x → biasedDay x + 1 ≡ past
-    up e = omega arith
+  pub on-by : d .ordinal ≡ o → d .«day_ordinal» ≡ d .day → biasedDay x + 1 ≡ past → IsOn d r past o (eqb (styleNumber (d .style)) (styleNumber (styleAt r (biasedDay x))))
+  on-by f g h = ⊎-elim
+      (λ t. subst (IsOn d r past o) (sym t) (record {
+        ordinal-is = f;
+        day-ordinal-is = g;
+        style-is = style-number-one (d .style) (styleAt r (biasedDay x)) (eqb-true _ _ t) ∙ ap (styleAt r) (sym back);
+        day-is = ap day back ∙ biased-day x ∙ e;
+      }))
+      (λ t. subst (IsOn d r past o) (sym t) (λ q. eqb-false _ _ t (ap styleNumber (q .style-is ∙ ap (styleAt r) back))))
+      (true-or-false (eqb (styleNumber (d .style)) (styleNumber (styleAt r (biasedDay x)))))
+    where
+      back : past - 1 ≡ biasedDay x
+      back = omega arith
 
 pub usual-movable : (l : Bool) {d : Date} → Usual d → Inside l (d .day) → Is32Bit (beside l (d .jdn)) → Movable l d
 usual-movable true u i f = (omega (arith, u .few), omega arith, omega (arith, u .day-ordinal-is), f)

@@ -1,17 +1,17 @@
 -- From what the private functions say to the promises.
 -- Assumes nothing.
 use mathlib.Core.Path.{_≡_, refl, sym, _∙_, ap, ap₂, subst, subst₂}
-use mathlib.Core.Bool.{Bool, true, false, not}
+use mathlib.Core.Bool.{Bool, true, false, cond}
 use mathlib.Core.Logic.{inl, inr, ⊎-elim}
 use Prim.Native.Nat.{ℕ, zero, suc, _+_, _-_, _*_, _/_, _%_, _<_, _≤_, _^_}
 use native.Mathlib.Omega.{arith}
 use borrow.Author.Tests.{lt-ltb, le-ltb}
-use lib.Dec.{ltb}
+use lib.Dec.{eqb}
 use lib.IntN.{ℤ, pos}
 use Rattle.whole.specs.Tests.{lt-or-ge}
 use Rattle.whole.specs.Promise.{unbias}
 use Rattle.days.specs.DayByDay as D
-use Rattle.days.specs.DayByDay.{AcceptedReformation, Label, label, Borne, OfYear, Place, Ordinal, DayOrdinal, Is32Bit, Style, JulianStyle, GregorianStyle, style, Month, monthLength}
+use Rattle.days.specs.DayByDay.{AcceptedReformation, Label, label, Borne, OfYear, Place, Ordinal, DayOrdinal, Is32Bit, JulianStyle, GregorianStyle, style, Month, monthLength}
 use Rattle.days.specs.RisingLabels.{nth-within}
 use Rattle.days.specs.BiasedDays.{dayBias, day, year, BiasedYear}
 use Rattle.days.specs.ClosedYear.{yearLength, year-most}
@@ -39,7 +39,11 @@ use Rattle.switches.specs.JudgingLaws.{refused-not}
 use Rattle.switches.specs.declared.reformation.Judgement.the-variants as Judgement′
 use Rattle.calendar.specs.declared.Calendar.{Calendar}
 use Rattle.calendar.specs.declared.Calendar.the-variants.{Reforming}
+use Rattle.calendar.specs.declared.Style.{Style}
+use Rattle.calendar.specs.declared.Style.the-variants as Style′
 use Rattle.calendar.specs.declared.Date.{Date}
+use Rattle.calendar.specs.declared.Told.{Told}
+use Rattle.calendar.specs.declared.Told.the-variants as Told′
 use Rattle.calendar.specs.declared.Chosen.the-variants as Chosen′
 use Rattle.calendar.specs.declared.Dated.{Dated}
 use Rattle.calendar.specs.declared.Dated.the-variants as Dated′
@@ -54,11 +58,11 @@ use Rattle.switches.specs.Laws.{starts-close, Wholly, wholly-old, wholly-new, w
 use Rattle.refusals.specs.declared.Refusal.{Refusal}
 use Rattle.ways.specs.declared.Neighbour.the-variants as Neighbour′
 use Rattle.ways.specs.Promise.{IsNeighbour, there, nowhere}
-use Rattle.calendar.specs.Calendars.{definitionOf, labels, Accepted, IsRecord, Genuine, sameStyle, styleIs}
+use Rattle.calendar.specs.Calendars.{definitionOf, labels, Accepted, styleOf, IsRecord, Genuine, sameStyle, styleIs}
 use Rattle.calendar.specs.Rows.{refuses, passes}
-use Rattle.calendar.specs.Promise.{refusal, refused, refusedReformation, Reforms, judged, RecordOf, record-of, Given, on-label, ByOrdinal, OffYear, on-ordinal, AtJdn, AtYmd, AtOrdinal, IsGenuine, Next, ConvertsTo, OfALabel}
+use Rattle.calendar.specs.Promise.{refusal, refused, refusedReformation, Reforms, judged, RecordOf, record-of, Given, on-label, ByOrdinal, OffYear, on-ordinal, AtJdn, AtYmd, AtOrdinal, IsGenuine, TellsDate, Next, ConvertsTo, OfALabel}
 use Rattle.calendar.specs.One.{whole, record-one}
-use Rattle.calendar.specs.Natural.{SwitchIs, switches-at, no-calendar, SomeSwitch, LabelledAt, old, new, OnSpot, plainRecord, Plain, SpotAt, IsPlace, plainPlace, recordAt, ReadsLabel, reads-at, reads-none, LabelAt, LaterLabel, PlacesOrdinal, ordinal-at-place, ordinal-off, LaterOrdinal, pair, TurnsLabel, turns-at, turns-gap, turns-none, TurnsOrdinal, turns-day, Turns, fieldsOf}
+use Rattle.calendar.specs.Natural.{SwitchIs, switches-at, no-calendar, SomeSwitch, LabelledAt, old, new, OnSpot, plainRecord, Plain, SpotAt, IsPlace, plainPlace, recordAt, ReadsLabel, reads-at, reads-none, LabelAt, LaterLabel, PlacesOrdinal, ordinal-at-place, ordinal-off, LaterOrdinal, pair, TurnsLabel, turns-at, turns-gap, turns-none, TurnsOrdinal, turns-day, Turns, styleAt, styleNumber, fieldsOf, isOfStyle}
 
 -- ---- Where a calendar switches
 pub switch-accepted : {r : ℤ} {k : ℕ} → Judges r (Judgement′.Accepted k) → SwitchIs (Reforming r) (Switch′.At k)
@@ -77,6 +81,26 @@ at-spot h p q =
     let (v, f, t) = month-day-in (p .from) (p .to) q in
     record { biased = h; there = (v .0, v .1, f, t); ordinal-is = q .day-is; adds = p .adds }
 
+-- ---- The style of a day
+pub old-style : {r : ℕ} (k : ℕ) → k < r → Style′.Julian ≡ styleAt r k
+old-style {r} k h = sym (ap (λ (t : Bool). cond t Style′.Julian Style′.Gregorian) (lt-ltb k r h))
+
+pub new-style : {r : ℕ} (k : ℕ) → r ≤ k → Style′.Gregorian ≡ styleAt r k
+new-style {r} k h = sym (ap (λ (t : Bool). cond t Style′.Julian Style′.Gregorian) (le-ltb k r h))
+
+module _ (c : Calendar) {r : ℕ} (runs : Runs (definitionOf c) r) {k : ℕ} (room : k < top) where
+  pub style-old : k < r → styleOf (style (definitionOf c) (day k)) ≡ Style′.Julian
+  style-old h = ap styleOf (runs .below k h room .1)
+
+  pub style-new : r ≤ k → styleOf (style (definitionOf c) (day k)) ≡ Style′.Gregorian
+  style-new h = ap styleOf (runs .above k h room .1)
+
+  pub style-at : styleOf (style (definitionOf c) (day k)) ≡ styleAt r k
+  style-at = ⊎-elim
+      (λ h. style-old h ∙ old-style k h)
+      (λ h. style-new h ∙ new-style k h)
+      (lt-or-ge k r)
+
 -- ---- A day in its calendar
 module _ (c : Calendar) {r : ℕ} (runs : Runs (definitionOf c) r) {k y m d o : ℕ} where
   pub labelled-is : LabelledAt r k y m d o → labels c (day k) ≡ label (year y) m d
@@ -92,9 +116,9 @@ module _ (c : Calendar) {r : ℕ} (runs : Runs (definitionOf c) r) {k y m d o : 
   labelled-month (new h a) = (a .there .0, a .there .1)
 
   -- its record
-  pub record-is : LabelledAt r k y m d o → {n z : ℤ} {i j : ℕ} → day k ≡ n → year y ≡ z → k + 1 - yearFirst r y ≡ i → k + 1 - monthFirst r y m ≡ j
-      → IsRecord c n (record { calendar = c; year = z; ordinal = i; month = m; day = d; «day_ordinal» = j; jdn = n })
-  record-is l {n} e f g h =
+  pub record-is : LabelledAt r k y m d o → {n z : ℤ} {i j : ℕ} {v : Style} → day k ≡ n → year y ≡ z → k + 1 - yearFirst r y ≡ i → k + 1 - monthFirst r y m ≡ j
+      → styleOf (style (definitionOf c) (day k)) ≡ v → IsRecord c n (record { calendar = c; year = z; ordinal = i; month = m; day = d; «day_ordinal» = j; jdn = n; style = v })
+  record-is l {n} e f g h w =
       let v : Month m = labelled-month l in
       record {
         calendar-is = refl;
@@ -102,6 +126,7 @@ module _ (c : Calendar) {r : ℕ} (runs : Runs (definitionOf c) r) {k y m d o : 
         ordinal-is = subst₂ (Ordinal (labels c)) e g (ordinal-at runs k y m d (labelled-biased l) (labelled-is l));
         day-ordinal-is = subst₂ (DayOrdinal (labels c)) e h (day-ordinal-at runs k y m d (labelled-biased l) (labelled-is l) (v .0) (v .1));
         day-is = refl;
+        style-is = sym w ∙ ap (λ (n : ℤ). styleOf (style (definitionOf c) n)) e;
       }
 
   -- where the year began in the same reckoning, from the switch on, the places are those of that reckoning
@@ -275,17 +300,21 @@ labelled-room {k = k} {y} {d = d} {o} (new h a) =
     part s e = omega arith
 
 module _ (c : Calendar) {r : ℕ} (runs : Runs (definitionOf c) r) (s : S.Spot) {n : ℤ} (l : OnSpot r s) (e : day (s .biased) ≡ n) where
-  pub record-plain : (r ≤ s .biased → r + s .ordinal ≤ s .biased + 1) → IsRecord c n (plainRecord c s n)
-  record-plain h = record-is c runs l e refl (plain-ordinal c runs l h) (plain-day-ordinal c runs l h)
+  pub spot-room : s .biased < top
+  spot-room = omega (arith, labelled-room l)
+
+  pub record-plain : {v : Style} → styleOf (style (definitionOf c) (day (s .biased))) ≡ v → (r ≤ s .biased → r + s .ordinal ≤ s .biased + 1) → IsRecord c n (plainRecord c v s n)
+  record-plain w h = record-is c runs l e refl (plain-ordinal c runs l h) (plain-day-ordinal c runs l h) w
 
   pub record-reform : {a b : ℕ} {z : ℤ} → r ≤ s .biased → year (biasedYear (s .year)) ≡ z → a ≡ firstDay r (J.start (biasedYear (s .year))) (s .biased + 1 - s .ordinal)
       → b ≡ firstDay r (julianMonth (biasedYear (s .year)) (s .month)) (s .biased + 1 - s .day)
-      → IsRecord c n (record { calendar = c; year = z; ordinal = s .biased + 1 - a; month = s .month; day = s .day; «day_ordinal» = s .biased + 1 - b; jdn = n })
+      → IsRecord c n (record { calendar = c; year = z; ordinal = s .biased + 1 - a; month = s .month; day = s .day; «day_ordinal» = s .biased + 1 - b; jdn = n; style = Style′.Gregorian })
   record-reform h f g i =
       let a = labelled-new l h in
       record-is c runs l e f
       (ap (λ (x : ℕ). s .biased + 1 - x) (sym (g ∙ ap (firstDay r (J.start (biasedYear (s .year)))) (sym (year-begins a)))))
       (ap (λ (x : ℕ). s .biased + 1 - x) (sym (i ∙ ap (firstDay r (julianMonth (biasedYear (s .year)) (s .month))) (sym (month-begins a)))))
+      (style-new c runs spot-room h)
 
 -- what its places ask of the machine
 module _ {r : ℕ} (s : S.Spot) {a : ℕ} (l : OnSpot r s) (h : r ≤ s .biased) where
@@ -308,6 +337,12 @@ module _ {r : ℕ} (s : S.Spot) {a : ℕ} (l : OnSpot r s) (h : r ≤ s .biased)
       )
 
 -- ---- A genuine record
+pub style-number-one : (a b : Style) → styleNumber a ≡ styleNumber b → a ≡ b
+style-number-one Style′.Julian Style′.Julian e = refl
+style-number-one Style′.Julian Style′.Gregorian e = absurd (omega arith)
+style-number-one Style′.Gregorian Style′.Julian e = absurd (omega arith)
+style-number-one Style′.Gregorian Style′.Gregorian e = refl
+
 pub genuine-by : {d t : Date} → RecordOf (d .calendar) (d .jdn) (Dated′.Date t) → Accepted (d .calendar) → fieldsOf d ≡ fieldsOf t → Genuine d
 unfolding whole
 genuine-by {d} {t} (record-of i) a g = record { accepted = a; is-record = subst (IsRecord (d .calendar) (d .jdn)) same i }
@@ -321,7 +356,8 @@ genuine-by {d} {t} (record-of i) a g = record { accepted = a; is-record = subst 
         let m : d .month ≡ t .month = ap (λ (f : Fields). f .month) g in
         let e : d .day ≡ t .day = ap (λ (f : Fields). f .day) g in
         let b : d .«day_ordinal» ≡ t .«day_ordinal» = ap (λ (f : Fields). f .«day_ordinal») g in
-        let w : whole (t .calendar) (t .year) (t .ordinal) (t .month) (t .day) (t .«day_ordinal») (t .jdn) ≡ whole (d .calendar) (d .year) (d .ordinal) (d .month) (d .day) (d .«day_ordinal») (d .jdn) = cc in
+        let v : d .style ≡ t .style = style-number-one (d .style) (t .style) (ap (λ (f : Fields). f .style) g) in
+        let w : whole (t .calendar) (t .year) (t .ordinal) (t .month) (t .day) (t .«day_ordinal») (t .jdn) (t .style) ≡ whole (d .calendar) (d .year) (d .ordinal) (d .month) (d .day) (d .«day_ordinal») (d .jdn) (d .style) = cc in
         w
 
 not-genuine : {d t : Date} → RecordOf (d .calendar) (d .jdn) (Dated′.Date t) → ¬ (fieldsOf d ≡ fieldsOf t) → ¬ Genuine d
@@ -356,18 +392,16 @@ converts-row g (refuses x) = refuses (λ p. x (p .1))
 converts-row g (passes x r) = passes (g, x) r
 
 -- ---- Styles
-pub julian-style : (c : Calendar) {r : ℕ} → Runs (definitionOf c) r → {n : ℤ} (x : ℕ) → x < 2 ^ 32 → unbias (2 ^ 31) x ≡ n → ltb (biasedDay x) r ≡ sameStyle JulianStyle (style (definitionOf c) n)
-julian-style c {r} runs x h e = subst (λ (n : ℤ). ltb (biasedDay x) r ≡ sameStyle JulianStyle (style (definitionOf c) n)) (biased-day x ∙ e) (⊎-elim
-    (λ g. lt-ltb (biasedDay x) r g ∙ sym (ap (sameStyle JulianStyle) (runs .below (biasedDay x) g (omega arith) .1)))
-    (λ g. le-ltb (biasedDay x) r g ∙ sym (ap (sameStyle JulianStyle) (runs .above (biasedDay x) g (omega arith) .1)))
-    (lt-or-ge (biasedDay x) r))
+same-style : (a b : D.Style) → eqb (styleNumber (styleOf b)) (styleNumber (styleOf a)) ≡ sameStyle a b
+same-style JulianStyle JulianStyle = refl
+same-style JulianStyle GregorianStyle = refl
+same-style GregorianStyle JulianStyle = refl
+same-style GregorianStyle GregorianStyle = refl
 
-pub other-style : (d : Date) {b : Bool} → b ≡ styleIs JulianStyle d → not b ≡ styleIs GregorianStyle d
-other-style d e = ap not e ∙ other (style (definitionOf (d .calendar)) (d .jdn))
-  where
-    other : (s : Style) → not (sameStyle JulianStyle s) ≡ sameStyle GregorianStyle s
-    other JulianStyle = refl
-    other GregorianStyle = refl
+-- that of a genuine record is that of its day
+pub tells-style : (a : D.Style) {d : Date} {b : Told} → TellsDate d (isOfStyle d (styleOf a)) b → TellsDate d (styleIs a d) b
+tells-style a (refuses x) = refuses x
+tells-style a {d} (passes g e) = passes g (e ∙ ap Told′.Is (ap (λ (v : Style). eqb (styleNumber v) (styleNumber (styleOf a))) (g .is-record .style-is) ∙ same-style a (style (definitionOf (d .calendar)) (d .jdn))))
 
 -- ---- The day of the reformation
 pub reform-some : {r : ℤ} (x : ℕ) → Accepted (Reforming r) → unbias (2 ^ 31) x ≡ r → 1 ≤ x
@@ -456,7 +490,7 @@ module _ (c : Calendar) {r y : ℕ} (runs : Runs (definitionOf c) r) {p : P.DayI
   biased-past = omega (arith, s .past-is)
 
   pub place-record : IsRecord c (day (p .past - 1)) (recordAt c z p)
-  place-record = record-is c runs (s .labelled) (ap day biased-past) e (s .ordinal-is) (s .day-ordinal-is)
+  place-record = record-is c runs (s .labelled) (ap day biased-past) e (s .ordinal-is) (s .day-ordinal-is) (style-at c runs (omega (arith, labelled-room (s .labelled))) ∙ sym (s .style-is))
 
   biased-label : labels c (day (s .biased)) ≡ label z (p .month) (p .day)
   biased-label = labelled-is c runs (s .labelled) ∙ ap (λ (z : ℤ). label z (p .month) (p .day)) e
@@ -478,18 +512,28 @@ module _ (c : Calendar) {r y : ℕ} (runs : Runs (definitionOf c) r) {p : P.DayI
       place = subst (λ (k : ℕ). Place (λ d. OfYear z (labels c d)) (day k) (p .ordinal)) biased-past there
 
 pub given-place : (c : Calendar) (p : P.DayInYear) {z n : ℤ} → Lowers (p .past - 1) (DayNumber′.Day n) → IsRecord c (day (p .past - 1)) (recordAt c z p)
-    → Given c z (day (p .past - 1)) (Dated′.Date (record { calendar = c; year = z; ordinal = p .ordinal; month = p .month; day = p .day; «day_ordinal» = p .«day_ordinal»; jdn = n }))
+    → Given c z (day (p .past - 1)) (Dated′.Date (whole c z (p .ordinal) (p .month) (p .day) (p .«day_ordinal») n (p .style)))
+unfolding whole
 given-place c p {z} w i =
-    given-biased c w (subst (λ (n : ℤ). IsRecord c n (record { calendar = c; year = z; ordinal = p .ordinal; month = p .month; day = p .day; «day_ordinal» = p .«day_ordinal»; jdn = n })) (lowered-day w) i)
+    given-biased c w (subst (λ (n : ℤ). IsRecord c n (whole c z (p .ordinal) (p .month) (p .day) (p .«day_ordinal») n (p .style))) (lowered-day w) i)
 
 -- a spot whose places are those of its own reckoning
-pub plain-stands : {r : ℕ} → SomeSwitch r → (s : S.Spot) → OnSpot r s → Plain r s → IsPlace r (s .year) (plainPlace s)
-plain-stands (c, runs) s l p = record { biased = s .biased; own = s .ordinal; past-is = refl; labelled = l; ordinal-is = plain-ordinal c runs l p; day-ordinal-is = plain-day-ordinal c runs l p }
+pub plain-stands : {r : ℕ} → SomeSwitch r → (s : S.Spot) → OnSpot r s → Plain r s → {v : Style} → v ≡ styleAt r (s .biased) → IsPlace r (s .year) (plainPlace v s)
+plain-stands (c, runs) s l p e =
+    record {
+      biased = s .biased;
+      own = s .ordinal;
+      past-is = refl;
+      labelled = l;
+      ordinal-is = plain-ordinal c runs l p;
+      day-ordinal-is = plain-day-ordinal c runs l p;
+      style-is = e;
+    }
 
 pub place-room : {r y : ℕ} {p : P.DayInYear} → IsPlace r y p → p .past < top
 place-room q = omega (arith, q .past-is, labelled-room (q .labelled))
 
-pub plain-room : {r y : ℕ} (s : S.Spot) → IsPlace r y (plainPlace s) → s .biased < top
+pub plain-room : {r y : ℕ} {v : Style} (s : S.Spot) → IsPlace r y (plainPlace v s) → s .biased < top
 plain-room s q = omega (arith, q .past-is, labelled-room (q .labelled))
 
 never-both : {r : ℕ} (k : ℕ) → r ≤ k → k < r → ⊥
@@ -501,13 +545,15 @@ begun {r} y f g i = absurd (never-both (J.start (biasedYear y)) i (subst (λ (k 
 
 module _ {r m d t : ℕ} {b : Bool} (y : ℕ) (h : BiasedYear (biasedYear y)) where
   -- a Julian day before the switch, and a day of a year that begins from the switch on
-  pub early-old : {s : S.Spot} → SomeSwitch r → b ≡ J.leapAt (biasedYear y) → t ≡ J.start (biasedYear y) → ReadsLabel b t y m d (Read′.At s) → s .biased < r → LabelAt r y m d (plainPlace s)
-  early-old w e f (reads-at {o} v q) g = (plain-stands w (spot (t + o - 1) y o m d) (old g (read-at J.leapAt J.start y m d h e f v q)) (λ i. absurd (never-both (t + o - 1) i g)), refl, refl)
+  pub early-old : {s : S.Spot} → SomeSwitch r → b ≡ J.leapAt (biasedYear y) → t ≡ J.start (biasedYear y) → ReadsLabel b t y m d (Read′.At s) → s .biased < r → LabelAt r y m d (plainPlace Style′.Julian s)
+  early-old w e f (reads-at {o} v q) g =
+      (plain-stands w (spot (t + o - 1) y o m d) (old g (read-at J.leapAt J.start y m d h e f v q)) (λ i. absurd (never-both (t + o - 1) i g)) (old-style (t + o - 1) g), refl, refl)
 
-  pub early-new : {s : S.Spot} → SomeSwitch r → b ≡ G.leapAt (biasedYear y) → t ≡ G.start (biasedYear y) → ReadsLabel b t y m d (Read′.At s) → r ≤ t → LabelAt r y m d (plainPlace s)
+  pub early-new : {s : S.Spot} → SomeSwitch r → b ≡ G.leapAt (biasedYear y) → t ≡ G.start (biasedYear y) → ReadsLabel b t y m d (Read′.At s) → r ≤ t → LabelAt r y m d (plainPlace Style′.Gregorian s)
   early-new w e f (reads-at {o} v q) g =
-      let (l, p) = in-new (subst (λ (k : ℕ). r ≤ k) f g) (read-at G.leapAt G.start y m d h e f v q) in
-      (plain-stands w (spot (t + o - 1) y o m d) l p, refl, refl)
+      let a = read-at G.leapAt G.start y m d h e f v q in
+      let (l, p) = in-new (subst (λ (k : ℕ). r ≤ k) f g) a in
+      (plain-stands w (spot (t + o - 1) y o m d) l p (new-style (t + o - 1) (omega (arith, at-from a))), refl, refl)
 
   -- a label that a year has not which is wholly in one reckoning
   pub old-none : b ≡ J.leapAt (biasedYear y) → t ≡ J.start (biasedYear y) → ReadsLabel b t y m d Read′.Nothing → t + 366 < r → Finds r y m d (Found′.Refused (refusal 4 (pos d)))
@@ -542,7 +588,7 @@ module _ {r m d : ℕ} (y : ℕ) (l : LaterLabel r y m d) where
   later-refused (turns-none n o) h = finds-none n (l .0) o
 
   pub later-at : {t w : ℕ} → TurnsLabel r y m d t → 4_294_967_296 ≤ t → w ≡ yearFirst r (biasedYear y)
-      → LabelAt r y m d (record { past = w + t / 4_294_967_296; ordinal = t / 4_294_967_296; month = m; day = d; «day_ordinal» = t % 4_294_967_296 })
+      → LabelAt r y m d (record { past = w + t / 4_294_967_296; ordinal = t / 4_294_967_296; month = m; day = d; «day_ordinal» = t % 4_294_967_296; style = Style′.Gregorian })
   later-at {w = w} (turns-at {k} {o} {i} {j} g a u v e f) h q = (
     record {
       biased = k;
@@ -551,6 +597,7 @@ module _ {r m d : ℕ} (y : ℕ) (l : LaterLabel r y m d) where
       labelled = new g a;
       ordinal-is = e ∙ sym (pair-first i j v);
       day-ordinal-is = f ∙ sym (pair-second i j v);
+      style-is = new-style k g;
     },
     refl,
     refl,
@@ -586,11 +633,15 @@ module _ {r : ℕ} (y : ℕ) {o : ℕ} (h : BiasedYear (biasedYear y)) where
   off-span s u n = ordinal-off (inr (omega (arith, s .first-is, s .past-is)))
 
   -- of a spot that was made of it
-  spot-place : {k : ℕ} {b : Bool} (s : S.Spot) → SomeSwitch r → SpotAt k y o b s → OnSpot r s × Plain r s → IsPlace r y (plainPlace s) × (s .ordinal ≡ o)
-  spot-place s w q (l, p) = (subst (λ (x : ℕ). IsPlace r x (plainPlace s)) (ap (λ (s : S.Spot). s .year) (q .is)) (plain-stands w s l p), ap (λ (s : S.Spot). s .ordinal) (q .is))
+  spot-place : {k : ℕ} {b : Bool} {v : Style} (s : S.Spot) → SomeSwitch r → SpotAt k y o b s → OnSpot r s × Plain r s → v ≡ styleAt r k → IsPlace r y (plainPlace v s) × (s .ordinal ≡ o)
+  spot-place {v = v} s w q (l, p) e = (
+    subst (λ (x : ℕ). IsPlace r x (plainPlace v s)) (ap (λ (s : S.Spot). s .year) (q .is)) (plain-stands w s l p (e ∙ ap (λ (s : S.Spot). styleAt r (s .biased)) (sym (q .is)))),
+    ap (λ (s : S.Spot). s .ordinal) (q .is),
+  )
 
-  pub whole-place : {t : ℕ} {b : Bool} (s : S.Spot) → SomeSwitch r → Wholly r (biasedYear y) t b → 1 ≤ o → o ≤ yearLength b → SpotAt (t + o - 1) y o b s → IsPlace r y (plainPlace s) × (s .ordinal ≡ o)
-  whole-place s w v from to q = spot-place s w q (whole-ordinal y h v from to q)
+  pub whole-place : {t : ℕ} {b : Bool} {u : Style} (s : S.Spot) → SomeSwitch r → Wholly r (biasedYear y) t b → 1 ≤ o → o ≤ yearLength b → SpotAt (t + o - 1) y o b s → u ≡ styleAt r (t + o - 1)
+      → IsPlace r y (plainPlace u s) × (s .ordinal ≡ o)
+  whole-place s w v from to q e = spot-place s w q (whole-ordinal y h v from to q) e
 
   -- in the year of a switch
   module _ {a b : ℕ} (g : SomeSwitch r) (s : YearSpan r (biasedYear y) a b) (u : 1 ≤ o) (v : a + o ≤ b) where
@@ -603,8 +654,8 @@ module _ {r : ℕ} (y : ℕ) {o : ℕ} (h : BiasedYear (biasedYear y)) where
     room : a + o - 1 < top
     room = omega (arith, s .past-room)
 
-    pub span-old : {b : Bool} (p : S.Spot) → a + o ≤ r → b ≡ J.leapAt (biasedYear y) → SpotAt (a + o - 1) y o b p → IsPlace r y (plainPlace p) × (p .ordinal ≡ o)
-    span-old p n e q = spot-place p g q (spot-old h below spot-is e q, λ i. absurd (never-both (a + o - 1) (subst (λ (p : S.Spot). r ≤ p .biased) (q .is) i) below))
+    pub span-old : {b : Bool} (p : S.Spot) → a + o ≤ r → b ≡ J.leapAt (biasedYear y) → SpotAt (a + o - 1) y o b p → IsPlace r y (plainPlace Style′.Julian p) × (p .ordinal ≡ o)
+    span-old p n e q = spot-place p g q (spot-old h below spot-is e q, λ i. absurd (never-both (a + o - 1) (subst (λ (p : S.Spot). r ≤ p .biased) (q .is) i) below)) (old-style (a + o - 1) below)
       where
         below : a + o - 1 < r
         below = omega arith
@@ -634,7 +685,7 @@ module _ {r : ℕ} (y : ℕ) {o : ℕ} (h : BiasedYear (biasedYear y)) where
     }
 
     pub turned-place : {t : ℕ} → r < a + o → TurnsOrdinal r y o t
-        → IsPlace r y (record { past = a + o; ordinal = o; month = t / 4_294_967_296 / 32; day = t / 4_294_967_296 % 32; «day_ordinal» = t % 4_294_967_296 })
+        → IsPlace r y (record { past = a + o; ordinal = o; month = t / 4_294_967_296 / 32; day = t / 4_294_967_296 % 32; «day_ordinal» = t % 4_294_967_296; style = Style′.Gregorian })
     turned-place n (turns-day {k} {g = x} {m} {d} {j} e i f w z) = rw (pair-first (m * 32 + d) j w, pair-second (m * 32 + d) j w, month-of m d f, day-of m d f) (record {
       biased = k;
       own = x;
@@ -642,6 +693,7 @@ module _ {r : ℕ} (y : ℕ) {o : ℕ} (h : BiasedYear (biasedYear y)) where
       labelled = new (omega (arith, s .first-is)) i;
       ordinal-is = omega arith;
       day-ordinal-is = z;
+      style-is = new-style k (omega (arith, s .first-is));
     })
 
 pub ordinal-placed : {r y o : ℕ} {p : P.DayInYear} → PlacesOrdinal r y o (Placed′.At p) → IsPlace r y p × (p .ordinal ≡ o)

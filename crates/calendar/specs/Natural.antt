@@ -1,10 +1,10 @@
 -- What the private functions say, of days and years that are biased as naturals.
 use mathlib.Core.Path.{_≡_}
-use mathlib.Core.Bool.{Bool}
+use mathlib.Core.Bool.{Bool, cond}
 use mathlib.Core.Logic.{_⊎_}
 use lib.IntN.{ℤ, pos}
 use Prim.Native.Nat.{ℕ, zero, suc, _+_, _-_, _*_, _<_, _≤_}
-use Rattle.days.specs.DayByDay.{JulianStyle, style}
+use lib.Dec.{ltb, eqb}
 use Rattle.days.specs.BiasedDays.{day, year}
 use Rattle.days.specs.ClosedJulian as J
 use Rattle.days.specs.ClosedGregorian as G
@@ -15,6 +15,8 @@ use Rattle.inner.specs.Natural.{biasedYear}
 use Rattle.monthdays.specs.Promise.{MonthDayAt}
 use Rattle.fields.specs.declared.Fields.{Fields}
 use Rattle.calendar.specs.declared.Calendar.{Calendar}
+use Rattle.calendar.specs.declared.Style.{Style}
+use Rattle.calendar.specs.declared.Style.the-variants as Style′
 use Rattle.calendar.specs.declared.Date.{Date}
 use Rattle.calendar.specs.declared.record.DayInYear.{DayInYear}
 use Rattle.calendar.specs.declared.record.Placed.{Placed}
@@ -29,7 +31,7 @@ use Rattle.inner.specs.declared.Spot.{Spot}
 use Rattle.inner.specs.Spots.{At, spot}
 use Rattle.calendar.specs.declared.ReformDate.{ReformDate}
 use Rattle.calendar.specs.declared.ReformDate.the-variants as ReformDate′
-use Rattle.calendar.specs.Calendars.{definitionOf, labels, Accepted, sameStyle}
+use Rattle.calendar.specs.Calendars.{definitionOf, labels, Accepted}
 use Rattle.calendar.specs.Rows.{Unless}
 use Rattle.switches.specs.declared.Found.the-variants as Found′
 use Rattle.switches.specs.Promise.{NoneBelow, NotOver, Finds}
@@ -53,8 +55,8 @@ abbrev pub OnSpot : ℕ → Spot → Type 0
 OnSpot r s = LabelledAt r (s .biased) (biasedYear (s .year)) (s .month) (s .day) (s .ordinal)
 
 -- the record of a spot whose places are those of its own reckoning
-abbrev pub plainRecord : Calendar → Spot → ℤ → Date
-plainRecord c s n = record { calendar = c; year = year (biasedYear (s .year)); ordinal = s .ordinal; month = s .month; day = s .day; «day_ordinal» = s .day; jdn = n }
+abbrev pub plainRecord : Calendar → Style → Spot → ℤ → Date
+plainRecord c v s n = record { calendar = c; year = year (biasedYear (s .year)); ordinal = s .ordinal; month = s .month; day = s .day; «day_ordinal» = s .day; jdn = n; style = v }
 
 -- the places of a spot are those of its own reckoning: it is before the switch, or its year begins from the switch on
 abbrev pub Plain : ℕ → Spot → Type 0
@@ -67,7 +69,11 @@ pub record SpotAt (k y o : ℕ) (leap : Bool) (s : Spot) : Type 0 where
 
 -- ---- Where a day stands
 
--- a day of the raised year y: its label, and its places in its year and its month
+-- the style of the biased day k
+abbrev pub styleAt : ℕ → ℕ → Style
+styleAt r k = cond (ltb k r) Style′.Julian Style′.Gregorian
+
+-- a day of the raised year y: its label, its places in its year and its month, and its style
 pub record IsPlace (r y : ℕ) (p : DayInYear) : Type 0 where
   pub biased : ℕ
   pub own : ℕ
@@ -75,14 +81,15 @@ pub record IsPlace (r y : ℕ) (p : DayInYear) : Type 0 where
   pub labelled : LabelledAt r biased (biasedYear y) (p .month) (p .day) own
   pub ordinal-is : biased + 1 - yearFirst r (biasedYear y) ≡ p .ordinal
   pub day-ordinal-is : biased + 1 - monthFirst r (biasedYear y) (p .month) ≡ p .«day_ordinal»
+  pub style-is : p .style ≡ styleAt r biased
 
 -- that of a spot whose places are those of its own reckoning
-abbrev pub plainPlace : Spot → DayInYear
-plainPlace s = record { past = s .biased + 1; ordinal = s .ordinal; month = s .month; day = s .day; «day_ordinal» = s .day }
+abbrev pub plainPlace : Style → Spot → DayInYear
+plainPlace v s = record { past = s .biased + 1; ordinal = s .ordinal; month = s .month; day = s .day; «day_ordinal» = s .day; style = v }
 
 -- its record
 abbrev pub recordAt : Calendar → ℤ → DayInYear → Date
-recordAt c z p = record { calendar = c; year = z; ordinal = p .ordinal; month = p .month; day = p .day; «day_ordinal» = p .«day_ordinal»; jdn = day (p .past - 1) }
+recordAt c z p = record { calendar = c; year = z; ordinal = p .ordinal; month = p .month; day = p .day; «day_ordinal» = p .«day_ordinal»; jdn = day (p .past - 1); style = p .style }
 
 -- ---- From a label
 
@@ -151,10 +158,14 @@ Turns r y (suc m) d = TurnsLabel r y (suc m) d
 abbrev pub ReformDateOf : Calendar → ℕ → ReformDate → Type 0
 ReformDateOf c b = Unless (Accepted c) (ReformDate′.Refused made-up) (ReformRecord (pos b) c)
 
+abbrev pub styleNumber : Style → ℕ
+styleNumber Style′.Julian = 0
+styleNumber Style′.Gregorian = 1
+
 -- the fields of a record that its day number and its calendar determine
 abbrev pub fieldsOf : Date → Fields
-fieldsOf d = record { year = d .year; ordinal = d .ordinal; month = d .month; day = d .day; «day_ordinal» = d .«day_ordinal» }
+fieldsOf d = record { year = d .year; ordinal = d .ordinal; month = d .month; day = d .day; «day_ordinal» = d .«day_ordinal»; style = styleNumber (d .style) }
 
--- of an accepted calendar: whether the label of a 32-bit day is Julian
-abbrev pub JulianStyleIs : Calendar → ℤ → Bool → Type 0
-JulianStyleIs c n b = Accepted c → b ≡ sameStyle JulianStyle (style (definitionOf c) n)
+-- whether a record is of this style
+abbrev pub isOfStyle : Date → Style → Bool
+isOfStyle d v = eqb (styleNumber (d .style)) (styleNumber v)

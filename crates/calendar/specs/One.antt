@@ -12,6 +12,7 @@ use Rattle.days.specs.ReformationTable.{judged-one}
 use Rattle.days.specs.ClosedRuns.{runs-one}
 use Rattle.calendar.specs.declared.Calendar.{Calendar}
 use Rattle.calendar.specs.declared.Calendar.the-variants as Calendar′
+use Rattle.calendar.specs.declared.Style.{Style}
 use Rattle.calendar.specs.declared.Date.{Date}
 use Rattle.calendar.specs.declared.Switch.the-variants as Switch′
 use Rattle.calendar.specs.declared.Dated.the-variants as Dated′
@@ -22,8 +23,8 @@ use Rattle.calendar.specs.Promise.{outcomeIs, Reforms, judged, RecordOfI
 use Rattle.calendar.specs.Natural.{SwitchIs, switches-at, no-calendar}
 
 -- ---- A day has one record
-unfoldable pub whole : Calendar → ℤ → ℕ → ℕ → ℕ → ℕ → ℤ → Date
-whole c y o m d b j = record { calendar = c; year = y; ordinal = o; month = m; day = d; «day_ordinal» = b; jdn = j }
+unfoldable pub whole : Calendar → ℤ → ℕ → ℕ → ℕ → ℕ → ℤ → Style → Date
+whole c y o m d b j v = record { calendar = c; year = y; ordinal = o; month = m; day = d; «day_ordinal» = b; jdn = j; style = v }
 
 pub record-one : {t : Timeline} {c : Calendar} {n : ℤ} {r s : Date} → IsRecordIn t c n r → IsRecordIn t c n s → r ≡ s
 unfolding whole
@@ -36,8 +37,9 @@ record-one {r = r} {s} p q =
     let b : r .«day_ordinal» ≡ s .«day_ordinal» = place-one (p .day-ordinal-is) (q .day-ordinal-is) in
     let k : r .calendar ≡ s .calendar = p .calendar-is ∙ sym (q .calendar-is) in
     let j : r .jdn ≡ s .jdn = p .day-is ∙ sym (q .day-is) in
-    let e : whole (r .calendar) (r .year) (r .ordinal) (r .month) (r .day) (r .«day_ordinal») (r .jdn)
-    ≡ whole (s .calendar) (s .year) (s .ordinal) (s .month) (s .day) (s .«day_ordinal») (s .jdn) = cc in
+    let v : r .style ≡ s .style = p .style-is ∙ sym (q .style-is) in
+    let e : whole (r .calendar) (r .year) (r .ordinal) (r .month) (r .day) (r .«day_ordinal») (r .jdn) (r .style)
+    ≡ whole (s .calendar) (s .year) (s .ordinal) (s .month) (s .day) (s .«day_ordinal») (s .jdn) (s .style) = cc in
     e
 
 record-of-one : (t : Timeline) (c : Calendar) (n : ℤ) → One (RecordOfIn t c n)

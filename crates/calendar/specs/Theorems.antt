@@ -5,7 +5,7 @@ use mathlib.Core.Logic.{_⊎_, ⊎-elim}
 use Prim.Native.Nat.{ℕ, _≤_, _<_}
 use native.Mathlib.Omega.{arith}
 use lib.IntN.{ℤ, sucℤ, predℤ, pred-suc, suc-pred}
-use Rattle.days.specs.DayByDay.{Label, label, Timeline, labelsIn, OfYear, Place, Is32Bit, Month, Rising}
+use Rattle.days.specs.DayByDay.{Label, label, Timeline, labelsIn, styleIn, OfYear, Place, Is32Bit, Month, Rising}
 use Rattle.days.specs.RisingLabels.{once, nth-one, nth-within}
 use Rattle.days.specs.RisingTimelines.{rising-rises, timeline-proper, skipped-in-nowhere}
 use Rattle.days.specs.RisingPlaces.{has-ordinal, has-day-ordinal}
@@ -16,7 +16,7 @@ use Rattle.calendar.specs.declared.Date.{Date}
 use Rattle.calendar.specs.declared.Dated.{Dated}
 use Rattle.calendar.specs.declared.Dated.the-variants as Dated′
 use Rattle.refusals.specs.declared.Refusal.{Refusal}
-use Rattle.calendar.specs.Calendars.{timeline, labels, Accepted, IsRecordIn, IsRecord, Genuine}
+use Rattle.calendar.specs.Calendars.{timeline, labels, Accepted, styleOf, IsRecordIn, IsRecord, Genuine}
 use Rattle.calendar.specs.Rows.{refuses, passes}
 use Rattle.calendar.specs.RowLaws.{passed}
 use Rattle.calendar.specs.Promise.{record-of, AtJdn, GivenIn, on-label, YmdIn, AtYmd, on-ordinal, OrdinalIn, AtOrdinal, Next}
@@ -68,8 +68,8 @@ has-record t r c n =
     let l : Label = labelsIn t n in
     let (o, p) = has-ordinal r n in
     let (b, q) = has-day-ordinal r n in (
-      record { calendar = c; year = l .year; ordinal = o; month = l .month; day = l .day; «day_ordinal» = b; jdn = n },
-      record { calendar-is = refl; label-is = refl; ordinal-is = p; day-ordinal-is = q; day-is = refl },
+      record { calendar = c; year = l .year; ordinal = o; month = l .month; day = l .day; «day_ordinal» = b; jdn = n; style = styleOf (styleIn t n) },
+      record { calendar-is = refl; label-is = refl; ordinal-is = p; day-ordinal-is = q; day-is = refl; style-is = refl },
     )
 
 -- ---- Every accepted calendar

@@ -10,8 +10,9 @@ ghost use mathlib.Core.Bool.{not};
 ghost use Prim.Native.Nat.{_-_, _≤_};
 ghost use Rattle.calendar.specs.Calendars.{isReforming, styleIs};
 ghost use Rattle.calendar.specs.Promise.{refused, refusedReformation, Reforms, AtJdn, AtYmd, AtOrdinal, Next, ConvertsTo, IsGenuine, TellsCalendar, TellsDate, CountsDate, ReformationOf, reformDay, LastJulian, FirstGregorian};
+ghost use Rattle.calendar.specs.One.{whole};
 ghost use Rattle.calendar.specs.InMonth.{NextInMonth, IsUsual, IsOn, Movable, movedBy, OneOn, oneOn};
-ghost use Rattle.calendar.specs.Natural.{SwitchIs, ReformDateOf, fieldsOf, JulianStyleIs};
+ghost use Rattle.calendar.specs.Natural.{SwitchIs, ReformDateOf, fieldsOf, styleNumber, styleAt, isOfStyle};
 use fields::Fields;
 pub use inner::RATA_DIE_ZERO_JDN;
 pub use inner::REFORM1582_JDN;
@@ -35,9 +36,16 @@ pub enum Calendar {
     Reforming(i32),
 }
 
+// The calendar by which a day is labelled: printed lists call the Julian one old style, the Gregorian one new style.
+pub enum Style {
+    Julian,
+    Gregorian,
+}
+
 // The record of a day in a calendar.
 pub struct Date {
     pub calendar: Calendar,
+    pub style: Style,
     pub year: i32,
     pub ordinal: u32,
     pub month: u32,
@@ -312,21 +320,13 @@ impl Date {
     pub fn is_julian(self) -> Told
         ensures { λ a. ⌜ TellsDate self (styleIs JulianStyle self) a ⌝ }
     {
-        if self.is_genuine() {
-            let calendar = self.calendar;
-            return Told::Is(has_julian_style(calendar, self.jdn));
-        }
-        Told::Refused(refusal_of(16, 0))
+        has_style(self, Style::Julian)
     }
 
     pub fn is_gregorian(self) -> Told
         ensures { λ a. ⌜ TellsDate self (styleIs GregorianStyle self) a ⌝ }
     {
-        if self.is_genuine() {
-            let calendar = self.calendar;
-            return Told::Is(!has_julian_style(calendar, self.jdn));
-        }
-        Told::Refused(refusal_of(16, 0))
+        has_style(self, Style::Gregorian)
     }
 
     // The date of the same day in another calendar.
@@ -360,36 +360,78 @@ impl Date {
 pub fn next_in_month(date: Date, later: bool) -> Near
     ensures { λ n. ⌜ NextInMonth later date n ⌝ }
 {
+    let calendar = date.calendar;
+    let style = date.style;
     // The two ways are written apart: each is then in line with its own numbers.
     if later {
         if ways::stays(true, date.day, date.jdn) {
-            if is_usual(date) {
+            if is_usual(
+                calendar,
+                style,
+                date.year,
+                date.ordinal,
+                date.month,
+                date.day,
+                date.day_ordinal,
+                date.jdn,
+            ) {
                 return Near::Date(moved(date, true));
             }
         }
         return Near::Other;
     }
     if ways::stays(false, date.day, date.jdn) {
-        if is_usual(date) {
+        if is_usual(
+            calendar,
+            style,
+            date.year,
+            date.ordinal,
+            date.month,
+            date.day,
+            date.day_ordinal,
+            date.jdn,
+        ) {
             return Near::Date(moved(date, false));
         }
     }
     Near::Other
 }
 
-// Whether a date is genuine and its year wholly in one reckoning.
-fn is_usual(date: Date) -> bool
-    ensures { λ b. ⌜ IsUsual date b ⌝ }
+// Whether a date is genuine and its year wholly in one reckoning. Its fields come one by one: a struct would come through memory.
+fn is_usual(
+    calendar: Calendar,
+    style: Style,
+    year: i32,
+    ordinal: u32,
+    month: u32,
+    day: u32,
+    day_ordinal: u32,
+    jdn: i32,
+) -> bool
+    ensures { λ b. ⌜ IsUsual (whole calendar year ordinal month day «day_ordinal» jdn style) b ⌝ }
 {
-    let calendar = date.calendar;
     match switch_of(calendar) {
         Switch::MadeUp => false,
         Switch::At(switch) => {
-            let at = switches::year_in(switch, raised(date.year));
+            let at = switches::year_in(switch, raised(year));
             if at.whole {
-                return match monthdays::md2ordinal(at.leap, date.month, date.day) {
+                return match monthdays::md2ordinal(at.leap, month, day) {
                     DayOrdinal::Nothing => false,
-                    DayOrdinal::At(ordinal) => is_on(date, at.first + ordinal as u64, ordinal),
+                    DayOrdinal::At(own) => is_on(
+                        Date {
+                            calendar: calendar,
+                            style: style,
+                            year: year,
+                            ordinal: ordinal,
+                            month: month,
+                            day: day,
+                            day_ordinal: day_ordinal,
+                            jdn: jdn,
+                        },
+                        switch,
+                        at.first + own as u64,
+                        own,
+                    ),
                 };
             }
             false
@@ -397,9 +439,9 @@ fn is_usual(date: Date) -> bool
     }
 }
 
-// Whether a date has this ordinal, the day ordinal that its day has, and the day number that is biased before `past`.
-fn is_on(date: Date, past: u64, ordinal: u32) -> bool
-    ensures { λ b. ⌜ IsOn date past ordinal b ⌝ }
+// Whether a date has this ordinal, the day ordinal that its day has, the day number that is biased before `past`, and the style of that day.
+fn is_on(date: Date, switch: u64, past: u64, ordinal: u32) -> bool
+    ensures { λ b. ⌜ IsOn date switch past ordinal b ⌝ }
 {
     if date.ordinal != ordinal {
         return false;
@@ -407,7 +449,12 @@ fn is_on(date: Date, past: u64, ordinal: u32) -> bool
     if date.day_ordinal != date.day {
         return false;
     }
-    raised(date.jdn) as u64 + inner::LEAST_DAY + 1 == past
+    let today = raised(date.jdn) as u64 + inner::LEAST_DAY;
+    if today + 1 != past {
+        return false;
+    }
+    let style = date.style;
+    style_number(style) == style_number(style_at(switch, today))
 }
 
 // The record with its day one further.
@@ -416,8 +463,10 @@ fn moved(date: Date, later: bool) -> Date
     ensures { λ d. ⌜ d ≡ movedBy later date ⌝ }
 {
     let calendar = date.calendar;
+    let style = date.style;
     Date {
         calendar: calendar,
+        style: style,
         year: date.year,
         ordinal: one_on(later, date.ordinal),
         month: date.month,
@@ -483,21 +532,45 @@ fn one_less(n: u32) -> u32
 fn fields_of(date: Date) -> Fields
     ensures { λ f. ⌜ f ≡ fieldsOf date ⌝ }
 {
+    let style = date.style;
     Fields {
         year: date.year,
         ordinal: date.ordinal,
         month: date.month,
         day: date.day,
         day_ordinal: date.day_ordinal,
+        style: style_number(style),
     }
 }
 
-// Whether a day is before the switch of an accepted calendar.
-fn has_julian_style(calendar: Calendar, jdn: i32) -> bool
-    ensures { λ b. ⌜ JulianStyleIs calendar jdn b ⌝ }
+// ---- Styles
+
+fn style_number(style: Style) -> u32
+    ensures { λ n. ⌜ n ≡ styleNumber style ⌝ }
 {
-    match switch_of(calendar) {
-        Switch::MadeUp => false,
-        Switch::At(switch) => (raised(jdn) as u64 + inner::LEAST_DAY) < switch,
+    match style {
+        Style::Julian => 0,
+        Style::Gregorian => 1,
     }
+}
+
+// The style of a biased day.
+fn style_at(switch: u64, biased: u64) -> Style
+    ensures { λ s. ⌜ s ≡ styleAt switch biased ⌝ }
+{
+    if biased < switch {
+        return Style::Julian;
+    }
+    Style::Gregorian
+}
+
+// Whether a record, which has to be genuine, is of this style.
+fn has_style(date: Date, style: Style) -> Told
+    ensures { λ a. ⌜ TellsDate date (isOfStyle date style) a ⌝ }
+{
+    if date.is_genuine() {
+        let own = date.style;
+        return Told::Is(style_number(own) == style_number(style));
+    }
+    Told::Refused(refusal_of(16, 0))
 }

@@ -2,6 +2,7 @@
 
 ghost use mathlib.Core.Path.{_≡_};
 ghost use Prim.Native.Nat.{_+_, _-_, _≤_, _<_};
+ghost use Rattle.whole.specs.Whether.{Whether};
 ghost use Rattle.days.specs.BiasedDays.{day};
 ghost use Rattle.days.specs.ClosedRuns.{Runs, top, julianMonth, monthFirst};
 ghost use Rattle.days.specs.DayByDay.{Month};
@@ -12,6 +13,7 @@ ghost use Rattle.calendar.specs.Natural.{SpotAt, OnSpot, plainRecord, pl
 use crate::Calendar;
 use crate::Date;
 use crate::Dated;
+use crate::Style;
 use inner::DayNumber;
 use inner::Spot;
 use monthdays::DayOrdinal;
@@ -66,19 +68,20 @@ fn record_of(calendar: Calendar, switch: u64, s: Spot, jdn: i32) -> Date
     ensures { λ d. ⌜ IsRecord calendar jdn d ⌝ }
 {
     if s.biased < switch {
-        return plain_record(calendar, s, jdn);
+        return plain_record(calendar, Style::Julian, s, jdn);
     }
     if switch + s.ordinal as u64 - 1 <= s.biased {
-        return plain_record(calendar, s, jdn);
+        return plain_record(calendar, Style::Gregorian, s, jdn);
     }
     reform_record(calendar, switch, s, jdn)
 }
 
-fn plain_record(calendar: Calendar, s: Spot, jdn: i32) -> Date
-    ensures { λ d. ⌜ d ≡ plainRecord calendar s jdn ⌝ }
+fn plain_record(calendar: Calendar, style: Style, s: Spot, jdn: i32) -> Date
+    ensures { λ d. ⌜ d ≡ plainRecord calendar style s jdn ⌝ }
 {
     Date {
         calendar: calendar,
+        style: style,
         year: whole::lowered(s.year),
         ordinal: s.ordinal,
         month: s.month,
@@ -106,6 +109,7 @@ fn reform_record(calendar: Calendar, switch: u64, s: Spot, jdn: i32) -> Date
     );
     Date {
         calendar: calendar,
+        style: Style::Gregorian,
         year: whole::lowered(s.year),
         ordinal: (past - year_first) as u32,
         month: s.month,
@@ -131,13 +135,14 @@ fn julian_month(year: u32, month: u32) -> u64
 // What is usual, the Julian days before a switch and most refusals are found in line. The days from a switch on, in its year, and the labels
 // that are refused there, are found out of line, by `turning`.
 
-// The biased day past it, its label, and its places in its year and its month.
+// The biased day past it, its label, its places in its year and its month, and its style.
 struct DayInYear {
     past: u64,
     ordinal: u32,
     month: u32,
     day: u32,
     day_ordinal: u32,
+    style: Style,
 }
 
 enum Placed {
@@ -150,9 +155,11 @@ fn given(calendar: Calendar, year: i32, p: DayInYear) -> Dated
     requires { ⌜ (1 ≤ p .past) × IsRecord calendar (day (p .past - 1)) (recordAt calendar year p) ⌝ }
     ensures { λ d. ⌜ Given calendar year (day (p .past - 1)) d ⌝ }
 {
+    let style = p.style;
     match inner::day_number(p.past - 1) {
         DayNumber::Day(jdn) => Dated::Date(Date {
             calendar: calendar,
+            style: style,
             year: year,
             ordinal: p.ordinal,
             month: p.month,
@@ -166,9 +173,9 @@ fn given(calendar: Calendar, year: i32, p: DayInYear) -> Dated
 }
 
 // The places of a day in its own reckoning.
-fn plain_place(s: Spot) -> DayInYear
+fn plain_place(style: Style, s: Spot) -> DayInYear
     requires { ⌜ s .biased < top ⌝ }
-    ensures { λ p. ⌜ p ≡ plainPlace s ⌝ }
+    ensures { λ p. ⌜ p ≡ plainPlace style s ⌝ }
 {
     DayInYear {
         past: s.biased + 1,
@@ -176,6 +183,7 @@ fn plain_place(s: Spot) -> DayInYear
         month: s.month,
         day: s.day,
         day_ordinal: s.day,
+        style: style,
     }
 }
 
@@ -207,16 +215,22 @@ pub fn on_label(calendar: Calendar, switch: u64, year: i32, month: u32, day: u32
     requires { ⌜ Runs (definitionOf calendar) switch ⌝ }
     ensures { λ d. ⌜ AtYmd calendar year month day d ⌝ }
 {
+    if is_month(month) {
+        return match label_place(switch, whole::raised(year), month, day) {
+            Placed::At(p) => given(calendar, year, p),
+            Placed::Refused(refusal) => Dated::Refused(refusal),
+        };
+    }
+    crate::refused_count(3, month)
+}
+
+fn is_month(month: u32) -> bool
+    ensures { λ b. ⌜ Whether (Month month) b ⌝ }
+{
     if month < 1 {
-        return crate::refused_count(3, month);
+        return false;
     }
-    if 12 < month {
-        return crate::refused_count(3, month);
-    }
-    match label_place(switch, whole::raised(year), month, day) {
-        Placed::At(p) => given(calendar, year, p),
-        Placed::Refused(refusal) => Dated::Refused(refusal),
-    }
+    month <= 12
 }
 
 fn label_place(switch: u64, year: u32, month: u32, day: u32) -> Placed
@@ -253,7 +267,7 @@ fn plain_label(switch: u64, year: u32, month: u32, day: u32) -> Early
             }
             Read::At(s) => {
                 if s.biased < switch {
-                    return Early::At(plain_place(s));
+                    return Early::At(plain_place(Style::Julian, s));
                 }
                 Early::Later
             }
@@ -263,7 +277,7 @@ fn plain_label(switch: u64, year: u32, month: u32, day: u32) -> Early
     if switch <= new {
         return match reading(inner::is_gregorian_leap(year), new, year, month, day) {
             Read::Nothing => Early::Refused(refusals::refusal_with(4, day)),
-            Read::At(s) => Early::At(plain_place(s)),
+            Read::At(s) => Early::At(plain_place(Style::Gregorian, s)),
         };
     }
     Early::Later
@@ -285,6 +299,7 @@ fn later_label(switch: u64, year: u32, month: u32, day: u32) -> Placed
         month: month,
         day: day,
         day_ordinal: (t % PAIR) as u32,
+        style: Style::Gregorian,
     })
 }
 
@@ -323,7 +338,8 @@ fn ordinal_place(switch: u64, year: u32, ordinal: u32) -> Placed
             return Placed::Refused(refusals::refusal_with(6, ordinal));
         }
         let biased = at.first + ordinal as u64 - 1;
-        return Placed::At(plain_place(spot_at(biased, year, ordinal, at.leap)));
+        let s = spot_at(biased, year, ordinal, at.leap);
+        return Placed::At(plain_place(crate::style_at(switch, biased), s));
     }
     let span = switches::year_span(switch, year);
     let past = span.first + ordinal as u64;
@@ -332,7 +348,7 @@ fn ordinal_place(switch: u64, year: u32, ordinal: u32) -> Placed
     }
     if past <= switch {
         let s = spot_at(past - 1, year, ordinal, inner::is_julian_leap(year));
-        return Placed::At(plain_place(s));
+        return Placed::At(plain_place(Style::Julian, s));
     }
     let t = turning(switch, year, 0, ordinal);
     Placed::At(DayInYear {
@@ -341,6 +357,7 @@ fn ordinal_place(switch: u64, year: u32, ordinal: u32) -> Placed
         month: (t / PAIR / 32) as u32,
         day: (t / PAIR % 32) as u32,
         day_ordinal: (t % PAIR) as u32,
+        style: Style::Gregorian,
     })
 }
 

@@ -2,15 +2,26 @@
 // For the crates above; `listing` passes `put_header` on to users.
 
 ghost use mathlib.Core.Path.{_≡_};
-ghost use Rattle.columns.specs.Columns.{numbersOf, lineOf};
+ghost use Rattle.columns.specs.Columns.{styleLetters, numbersOf, lineOf};
 ghost use Rattle.columns.specs.Promise.{PutsHeader};
 use calendar::Date;
 use calendar::Dated;
+use calendar::Style;
 use linetext::Line;
 use linetext::LineNumbers;
 use writer::Written;
 use writer::buffer;
 use writer::buffer::Copied;
+
+// The letters of a style, `OS` and `NS`: the first, and 256 times the second.
+fn style_letters(style: Style) -> u64
+    ensures { λ r. ⌜ r ≡ styleLetters style ⌝ }
+{
+    match style {
+        Style::Julian => 21_327,
+        Style::Gregorian => 21_326,
+    }
+}
 
 // The numbers in the line of a date.
 fn numbers_of(date: Date) -> LineNumbers
@@ -18,6 +29,7 @@ fn numbers_of(date: Date) -> LineNumbers
 {
     let day = date.day;
     let weekday = weekday::for_jdn(date.jdn);
+    let style = date.style;
     LineNumbers {
         jdn: whole::widened(date.jdn),
         year: whole::widened(date.year),
@@ -25,6 +37,7 @@ fn numbers_of(date: Date) -> LineNumbers
         month: date.month as u64,
         day: day as u64,
         weekday: weekday as u64,
+        style: style_letters(style),
     }
 }
 
@@ -38,7 +51,7 @@ pub fn line_of(answer: Dated) -> Line
     }
 }
 
-const HEADER: [u8; 35] = *b"jdn\tyear\tordinal\tmonth\tday\tweekday\n";
+const HEADER: [u8; 41] = *b"jdn\tyear\tordinal\tmonth\tday\tweekday\tstyle\n";
 
 // The header, from `at` on.
 pub fn put_header(out: &mut [u8], at: usize) -> Written
@@ -46,6 +59,6 @@ pub fn put_header(out: &mut [u8], at: usize) -> Written
 {
     match buffer::copy_text(out, at, &HEADER) {
         Copied::To(end) => Written::Done(end),
-        Copied::NoRoom => Written::Refused(refusals::refusal_with(18, 35)),
+        Copied::NoRoom => Written::Refused(refusals::refusal_with(18, 41)),
     }
 }

@@ -1,4 +1,4 @@
-// The numbers of a date that follow from its day and its calendar, and whether two dates agree in all of them.
+// The numbers of a date that follow from its day and its calendar, its style among them as a number, and whether two dates agree in all of them.
 // For the crates above.
 
 ghost use Rattle.fields.specs.Promise.{IsSame};
@@ -9,6 +9,7 @@ pub struct Fields {
     pub month: u32,
     pub day: u32,
     pub day_ordinal: u32,
+    pub style: u32,
 }
 
 pub fn same_fields(a: Fields, b: Fields) -> bool
@@ -27,6 +28,9 @@ pub fn same_fields(a: Fields, b: Fields) -> bool
         return false;
     }
     if a.day_ordinal != b.day_ordinal {
+        return false;
+    }
+    if a.style != b.style {
         return false;
     }
     true

@@ -16,7 +16,7 @@ use Rattle.writer.specs.Promise.{Copies, copied, no-room, digitsOf, WholeDecima
 use Rattle.writer.specs.Laws.{PutText, put-on, length-digits, width-few, decimal-of, counting-start, counting-step, wrote, left-alone, whole-text}
 use Rattle.writer.specs.declared.buffer.Copied.{Copied}
 use Rattle.writer.specs.declared.Written.{Written}
-use Rattle.linetext.specs.Line.{longestLine, mark, Columns, numberColumns, refusalColumns, of-numbers, of-refusal, Ended, ended}
+use Rattle.linetext.specs.Line.{longestLine, mark, Columns, letters, numberColumns, refusalColumns, of-numbers, of-refusal, Ended, ended}
 use Rattle.whole.specs.Text.{newline, tab}
 use Rattle.linetext.specs.Promise.{LineOut}
 use Rattle.linetext.specs.declared.LineNumbers.{LineNumbers}
@@ -188,44 +188,58 @@ whole-column {x} {neg} {n} e h = closed (λ u s. by u (subst (λ (i : ℕ). Sign
     by : (u : List ℕ) → Signs (isNegative x) (natAbs x) u → WholeDecimal u x
     by u (Signs.signs {k} w) = whole-text x k w
 
--- ---- columns up to the newline, from the last one on
+-- ---- columns and the bytes e after them, from the last one on
 
-pub data Cells (xs : List ℤ) : List ℕ → Type 0 where
-  cells : {t : List ℕ} → Columns xs t → Cells xs (t ++ (newline ∷ []))
+pub data Cells (e : List ℕ) (xs : List ℤ) : List ℕ → Type 0 where
+  cells : {t : List ℕ} → Columns xs t → Cells e xs (t ++ e)
 
-abbrev pub CellsOf : List ℤ → ℕ → List ℕ → ℕ → List ℕ → ℕ → Type 0
-CellsOf xs = Text (Cells xs)
+abbrev pub CellsOf : List ℕ → List ℤ → ℕ → List ℕ → ℕ → List ℕ → ℕ → Type 0
+CellsOf e xs = Text (Cells e xs)
 
-pub last-cell : {x : ℤ} {b : List ℕ} {at : ℕ} {b′ : List ℕ} {i : ℕ} → Column x newline b at b′ i → CellsOf (x ∷ []) 22 b at b′ i
-last-cell {x} c = text-as c by (omega arith)
+pub last-cell : {x : ℤ} {after : ℕ} {b : List ℕ} {at : ℕ} {b′ : List ℕ} {i : ℕ} → Column x after b at b′ i → CellsOf (after ∷ []) (x ∷ []) 22 b at b′ i
+last-cell {x} {after} c = text-as c by (omega arith)
   where
-    by : (u : List ℕ) → Cell x newline u → Cells (x ∷ []) u
+    by : (u : List ℕ) → Cell x after u → Cells (after ∷ []) (x ∷ []) u
     by u (cell w) = cells (Columns.one w)
 
-pub cell-before : {x : ℤ} {xs : List ℤ} {m : ℕ} {b : List ℕ} {at : ℕ} {b₁ b₂ : List ℕ} {i j : ℕ} → at + 22 + m ≤ length b → Column x tab b at b₁ i → CellsOf xs m b₁ i b₂ j → CellsOf (x ∷ xs) (22 + m) b at b₂ j
-cell-before {x} {xs} h c r = text-then c r both h
+pub cell-before : {e : List ℕ} {x : ℤ} {xs : List ℤ} {m : ℕ} {b : List ℕ} {at : ℕ} {b₁ b₂ : List ℕ} {i j : ℕ} → at + 22 + m ≤ length b → Column x tab b at b₁ i → CellsOf e xs m b₁ i b₂ j → CellsOf e (x ∷ xs) (22 + m) b at b₂ j
+cell-before {e} {x} {xs} h c r = text-then c r both h
   where
-    both : (u v : List ℕ) → Cell x tab u → Cells xs v → Cells (x ∷ xs) (u ++ v)
-    both u v (cell {u = s} w) (cells {t} y) = subst (Cells (x ∷ xs)) (parted s t) (cells (Columns.more w y))
+    both : (u v : List ℕ) → Cell x tab u → Cells e xs v → Cells e (x ∷ xs) (u ++ v)
+    both u v (cell {u = s} w) (cells {t} y) = subst (Cells e (x ∷ xs)) (parted s t) (cells (Columns.more w y))
       where
-        parted : (s t : List ℕ) → (s ++ (tab ∷ t)) ++ (newline ∷ []) ≡ (s ++ (tab ∷ [])) ++ (t ++ (newline ∷ []))
+        parted : (s t : List ℕ) → (s ++ (tab ∷ t)) ++ e ≡ (s ++ (tab ∷ [])) ++ (t ++ e)
         parted s t = simp append-assoc
+
+-- the letters of a style and the newline, and the last number before them
+abbrev pub lastLetters : ℕ → List ℕ
+lastLetters w = letters w ++ (newline ∷ [])
+
+pub put-letters : (w : ℕ) {b : List ℕ} {at : ℕ} {b₁ b₂ b₃ : List ℕ} {i j k : ℕ} → at + 3 ≤ length b
+    → PutText b at (w % 256 ∷ []) b₁ i → PutText b₁ i (w / 256 % 256 ∷ []) b₂ j → PutText b₂ j (newline ∷ []) b₃ k → PutText b at (lastLetters w) b₃ k
+put-letters w h s t r = put-on (put-on s (w / 256 % 256 ∷ []) (omega arith) t) (newline ∷ []) (omega arith) r
+
+pub letters-after : (w : ℕ) {x : ℤ} {b : List ℕ} {at : ℕ} {b₁ b₂ : List ℕ} {i j : ℕ} → at + 25 ≤ length b → Column x tab b at b₁ i → PutText b₁ i (lastLetters w) b₂ j → CellsOf (tab ∷ lastLetters w) (x ∷ []) 25 b at b₂ j
+letters-after w {x} h c s = text-then c (put-text {P = λ (v : List ℕ). v ≡ lastLetters w} {m = 3} refl (omega arith) s) both (omega arith)
+  where
+    both : (u v : List ℕ) → Cell x tab u → v ≡ lastLetters w → Cells (tab ∷ lastLetters w) (x ∷ []) (u ++ v)
+    both u v (cell {u = s} d) e = subst (λ (y : List ℕ). Cells (tab ∷ lastLetters w) (x ∷ []) ((s ++ (tab ∷ [])) ++ y)) (sym e) (subst (Cells (tab ∷ lastLetters w) (x ∷ [])) (sym (append-assoc s (tab ∷ []) (lastLetters w))) (cells (Columns.one d)))
 
 -- ---- a line of output
 
 abbrev pub LinePut : Line → List ℕ → ℕ → List ℕ → ℕ → Type 0
 LinePut l = Text (Ended l) longestLine
 
-pub numbers-line : {r : LineNumbers} {b : List ℕ} {at : ℕ} {b′ : List ℕ} {i : ℕ} → CellsOf (numberColumns r) longestLine b at b′ i → LinePut (Line′.Numbers r) b at b′ i
+pub numbers-line : {r : LineNumbers} {b : List ℕ} {at : ℕ} {b′ : List ℕ} {i : ℕ} → CellsOf (tab ∷ lastLetters (r .style)) (numberColumns r) longestLine b at b′ i → LinePut (Line′.Numbers r) b at b′ i
 numbers-line {r} t = text-as t by (omega arith)
   where
-    by : (u : List ℕ) → Cells (numberColumns r) u → Ended (Line′.Numbers r) u
-    by u (cells c) = ended (of-numbers c)
+    by : (u : List ℕ) → Cells (tab ∷ lastLetters (r .style)) (numberColumns r) u → Ended (Line′.Numbers r) u
+    by u (cells {t} c) = subst (Ended (Line′.Numbers r)) (append-assoc t (tab ∷ letters (r .style)) (newline ∷ [])) (ended (of-numbers c))
 
-pub refusal-line : {f : Refusal} {b : List ℕ} {at : ℕ} {b₁ b₂ b₃ : List ℕ} {i j k : ℕ} → at + 68 ≤ length b → PutText b at (mark ∷ []) b₁ i → PutText b₁ i (tab ∷ []) b₂ j → CellsOf (refusalColumns f) 66 b₂ j b₃ k → LinePut (Line′.Refusal f) b at b₃ k
+pub refusal-line : {f : Refusal} {b : List ℕ} {at : ℕ} {b₁ b₂ b₃ : List ℕ} {i j k : ℕ} → at + 68 ≤ length b → PutText b at (mark ∷ []) b₁ i → PutText b₁ i (tab ∷ []) b₂ j → CellsOf (newline ∷ []) (refusalColumns f) 66 b₂ j b₃ k → LinePut (Line′.Refusal f) b at b₃ k
 refusal-line {f} h s t r = text-as (text-then (put-text {P = λ (v : List ℕ). v ≡ mark ∷ (tab ∷ [])} {m = 2} refl (omega arith) (put-on s (tab ∷ []) (omega arith) t)) r both (omega arith)) (λ u p. p) (omega arith)
   where
-    both : (u v : List ℕ) → u ≡ mark ∷ (tab ∷ []) → Cells (refusalColumns f) v → Ended (Line′.Refusal f) (u ++ v)
+    both : (u v : List ℕ) → u ≡ mark ∷ (tab ∷ []) → Cells (newline ∷ []) (refusalColumns f) v → Ended (Line′.Refusal f) (u ++ v)
     both u v e (cells c) = subst (λ (y : List ℕ). Ended (Line′.Refusal f) (y ++ v)) (sym e) (ended (of-refusal c))
 
 -- ---- the same by equal values
@@ -238,8 +252,8 @@ line-as {b = b} {at} {b′} {i} e = subst (λ (m : Line). LinePut m b at b′ i)
 
 -- the columns of a day, whose first two are signed
 pub numbers-columns : {r : LineNumbers} {x y : ℤ} {b : List ℕ} {at : ℕ} {b₁ b₂ b₃ : List ℕ} {i₁ i₂ i₃ : ℕ} → at + longestLine ≤ length b → length b ≤ length b₁ → x ≡ r .jdn → y ≡ r .year
-    → Column x tab b at b₁ i₁ → Column y tab b₁ i₁ b₂ i₂ → CellsOf (pos (r .ordinal) ∷ pos (r .month) ∷ pos (r .day) ∷ pos (r .weekday) ∷ []) 88 b₂ i₂ b₃ i₃ → LinePut (Line′.Numbers r) b at b₃ i₃
-numbers-columns {r} h l e f c₁ c₂ t = numbers-line {r = r} (cell-before {m = 110} (omega arith) (column-as e c₁) (cell-before {m = 88} (omega (arith, ends c₁)) (column-as f c₂) t))
+    → Column x tab b at b₁ i₁ → Column y tab b₁ i₁ b₂ i₂ → CellsOf (tab ∷ lastLetters (r .style)) (pos (r .ordinal) ∷ pos (r .month) ∷ pos (r .day) ∷ pos (r .weekday) ∷ []) 91 b₂ i₂ b₃ i₃ → LinePut (Line′.Numbers r) b at b₃ i₃
+numbers-columns {r} h l e f c₁ c₂ t = numbers-line {r = r} (cell-before {m = 113} (omega arith) (column-as e c₁) (cell-before {m = 91} (omega (arith, ends c₁)) (column-as f c₂) t))
 
 -- ---- a text made at the front of a buffer of its own
 

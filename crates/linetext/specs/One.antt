@@ -7,7 +7,7 @@ use lib.IntN.{ℤ}
 use Rattle.writer.specs.Promise.{Writes}
 use Rattle.writer.specs.One.{whole-one, writes-one}
 use Rattle.writer.specs.declared.Written.{Written}
-use Rattle.linetext.specs.Line.{mark, Columns, LineText, of-numbers, of-refusal, Ended, ended}
+use Rattle.linetext.specs.Line.{mark, Columns, letters, LineText, of-numbers, of-refusal, Ended, ended}
 use Rattle.whole.specs.Text.{newline, tab}
 use Rattle.linetext.specs.Promise.{LineOut}
 use Rattle.linetext.specs.declared.Line.{Line}
@@ -17,7 +17,7 @@ columns-one (Columns.one w) (Columns.one v) = whole-one w v
 columns-one (Columns.more w c) (Columns.more v d) = ap₂ (λ (t u : List ℕ). t ++ (tab ∷ u)) (whole-one w v) (columns-one c d)
 
 line-text-one : {l : Line} {t u : List ℕ} → LineText l t → LineText l u → t ≡ u
-line-text-one (of-numbers c) (of-numbers d) = columns-one c d
+line-text-one (of-numbers {r} c) (of-numbers d) = ap (λ (t : List ℕ). t ++ (tab ∷ letters (r .style))) (columns-one c d)
 line-text-one (of-refusal c) (of-refusal d) = ap (λ (t : List ℕ). mark ∷ (tab ∷ t)) (columns-one c d)
 
 pub ended-one : {l : Line} {t u : List ℕ} → Ended l t → Ended l u → t ≡ u

@@ -8,21 +8,23 @@ ghost use mathlib.Core.Bool.{false};
 ghost use Prim.Native.Nat.{_+_, _<_, _≤_};
 ghost use lib.ListN.{length};
 ghost use lib.IntN.{pos};
+ghost use Rattle.whole.specs.Text.{tab};
 ghost use Rattle.writer.specs.Laws.{PutText};
 ghost use Rattle.writer.specs.Promise.{digitsOf, Writes, Signs};
 ghost use Rattle.linetext.specs.declared.Line.the-variants.{Numbers as OfNumbers, Refusal as OfRefusal};
 ghost use Rattle.linetext.specs.Line.{longestLine};
 ghost use Rattle.linetext.specs.Promise.{LineOut};
-ghost use Rattle.linetext.specs.Laws.{Text, Column, CellsOf, LinePut};
+ghost use Rattle.linetext.specs.Laws.{Text, Column, CellsOf, lastLetters, LinePut};
 use refusals::Refusal;
 use writer::Written;
 use writer::buffer;
 use writer::buffer::Copied;
 
-// The longest line of output: six columns of at most 20 digits, a sign and the byte after them.
-pub const LONGEST_LINE: usize = 132;
+// The longest line of output: six columns of at most 20 digits, a sign and the byte after them, two letters and a newline.
+pub const LONGEST_LINE: usize = 135;
 
-// The numbers in the line of a day, whatever they are: that they are those of one day is said where they come from.
+// The numbers in the line of a day, whatever they are: that they are those of one day is said where they come from. The style is two letters as one
+// number, the first and 256 times the second.
 pub struct LineNumbers {
     pub jdn: i64,
     pub year: i64,
@@ -30,6 +32,7 @@ pub struct LineNumbers {
     pub month: u64,
     pub day: u64,
     pub weekday: u64,
+    pub style: u64,
 }
 
 // What stands in a line.
@@ -193,22 +196,34 @@ fn put_year(out: &mut [u8], at: usize, x: i64, after: u8) -> usize
 
 // ---- a line of output, with its newline
 
-// The last four columns of a day.
-fn put_last_four(
+// Two letters, and the newline.
+fn put_style(out: &mut [u8], at: usize, style: u64) -> usize
+    requires { ⌜ at + 3 ≤ length (now out) ⌝ }
+    ensures { λ r. ⌜ PutText (now (out .entry)) at (lastLetters style) (now (out .exit)) r ⌝ }
+{
+    let second = put_byte(out, at, (style % 256) as u8);
+    let third = put_byte(out, second, (style / 256 % 256) as u8);
+    put_byte(out, third, b'\n')
+}
+
+// The last five columns of a day.
+fn put_last_five(
     out: &mut [u8],
     at: usize,
     ordinal: u64,
     month: u64,
     day: u64,
     weekday: u64,
+    style: u64,
 ) -> usize
-    requires { ⌜ at + 88 ≤ length (now out) ⌝ }
-    ensures { λ r. ⌜ CellsOf (pos ordinal ∷ pos month ∷ pos day ∷ pos weekday ∷ []) 88 (now (out .entry)) at (now (out .exit)) r ⌝ }
+    requires { ⌜ at + 91 ≤ length (now out) ⌝ }
+    ensures { λ r. ⌜ CellsOf (tab ∷ lastLetters style) (pos ordinal ∷ pos month ∷ pos day ∷ pos weekday ∷ []) 91 (now (out .entry)) at (now (out .exit)) r ⌝ }
 {
     let second = put_count(out, at, ordinal, b'\t');
     let third = put_count(out, second, month, b'\t');
     let fourth = put_count(out, third, day, b'\t');
-    put_count(out, fourth, weekday, b'\n')
+    let fifth = put_count(out, fourth, weekday, b'\t');
+    put_style(out, fifth, style)
 }
 
 // The line of a day.
@@ -218,13 +233,14 @@ fn put_numbers(out: &mut [u8], at: usize, numbers: LineNumbers) -> usize
 {
     let second = put_integer(out, at, numbers.jdn, b'\t');
     let third = put_year(out, second, numbers.year, b'\t');
-    put_last_four(
+    put_last_five(
         out,
         third,
         numbers.ordinal,
         numbers.month,
         numbers.day,
         numbers.weekday,
+        numbers.style,
     )
 }
 

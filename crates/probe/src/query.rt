@@ -4,6 +4,7 @@ use calendar::Chosen;
 use calendar::Date;
 use calendar::Dated;
 use calendar::Refusal;
+use calendar::Style;
 use numbertext::Number;
 use numbertext::SignedNumber;
 
@@ -123,6 +124,13 @@ pub fn calendar_at(line: &[u8], at: usize) -> Head {
     }
 }
 
+fn style_at(line: &[u8], at: usize) -> Style {
+    match byte_at(line, at) {
+        b'J' => Style::Julian,
+        _ => Style::Gregorian,
+    }
+}
+
 // A record by its fields, which may be made up.
 fn record_at(calendar: Calendar, line: &[u8], at: usize) -> Asked {
     let jdn = signed_at(line, at);
@@ -131,8 +139,10 @@ fn record_at(calendar: Calendar, line: &[u8], at: usize) -> Asked {
     let month = after_tab(line, ordinal);
     let day = after_tab(line, month);
     let day_ordinal = after_tab(line, day);
+    let style = after_tab(line, day_ordinal);
     let date = Date {
         calendar: calendar,
+        style: style_at(line, style),
         year: signed_at(line, year),
         ordinal: number_at(line, ordinal),
         month: number_at(line, month),
@@ -142,7 +152,7 @@ fn record_at(calendar: Calendar, line: &[u8], at: usize) -> Asked {
     };
     Asked {
         answer: Dated::Date(date),
-        next: after_tab(line, day_ordinal),
+        next: after_tab(line, style),
     }
 }
 

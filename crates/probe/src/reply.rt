@@ -4,6 +4,7 @@ use calendar::Counted;
 use calendar::Date;
 use calendar::Dated;
 use calendar::Refusal;
+use calendar::Style;
 use calendar::Told;
 
 // The longest answer has 43 fields. A field is a number, or by its kind something else.
@@ -108,25 +109,36 @@ fn truth(answer: Told) -> u32 {
     }
 }
 
-pub fn is_julian(date: Date) -> u32 {
-    truth(date.is_julian())
+// 1 for the Julian style, 0 for another.
+pub fn julian_bit(date: Date) -> u32 {
+    let own = date.style;
+    match own {
+        Style::Julian => 1,
+        Style::Gregorian => 0,
+    }
 }
 
-// J for a Julian date and G for a Gregorian one; no date is both or neither.
-fn style_letter(julian: u32, gregorian: u32) -> u8 {
-    if julian == 1 && gregorian == 0 {
-        return b'J';
+// The style that stands in a record: J for the Julian one, G for the Gregorian one.
+pub fn style_letter(style: Style) -> u8 {
+    match style {
+        Style::Julian => b'J',
+        Style::Gregorian => b'G',
     }
-    if julian == 0 && gregorian == 1 {
-        return b'G';
-    }
-    b'?'
 }
 
+// The same of a genuine record, which has to be what the calls about it say.
 fn style(date: Date) -> u8 {
+    let own = date.style;
+    let letter = style_letter(own);
     let julian = truth(date.is_julian());
     let gregorian = truth(date.is_gregorian());
-    style_letter(julian, gregorian)
+    if letter == b'J' && julian == 1 && gregorian == 0 {
+        return letter;
+    }
+    if letter == b'G' && julian == 0 && gregorian == 1 {
+        return letter;
+    }
+    b'?'
 }
 
 pub fn calendar(reply: Reply, calendar: Calendar) -> Reply {

@@ -71,7 +71,9 @@ fn held(reply: Reply, w: Walker) -> Reply {
     let date = w.date;
     let calendar = date.calendar;
     let a = reply::calendar(reply::count(reply, way_of(kind)), calendar);
-    reply::count(reply::fields(a, date), reply::bit(w.ended))
+    let style = date.style;
+    let b = reply::letter(reply::fields(a, date), reply::style_letter(style));
+    reply::count(b, reply::bit(w.ended))
 }
 
 fn taken(reply: Reply, m: Moved) -> Reply {

@@ -10,7 +10,7 @@ fn main() -> io::Result<()> {
     let mut input = BufReader::with_capacity(1 << 16, io::stdin().lock());
     let mut out = BufWriter::with_capacity(1 << 16, io::stdout().lock());
     let mut line = Vec::with_capacity(LONGEST + 1);
-    out.write_all(b"jdn\tyear\tordinal\tmonth\tday\tweekday\n")?;
+    out.write_all(b"jdn\tyear\tordinal\tmonth\tday\tweekday\tstyle\n")?;
     loop {
         line.clear();
         if input.read_until(b'\n', &mut line)? == 0 {
@@ -22,13 +22,14 @@ fn main() -> io::Result<()> {
         match date(&names, &line) {
             Some(d) => writeln!(
                 out,
-                "{}\t{}\t{}\t{}\t{}\t{}",
+                "{}\t{}\t{}\t{}\t{}\t{}\t{}",
                 d.julian_day_number(),
                 d.year(),
                 d.ordinal(),
                 d.month().number(),
                 d.day(),
-                d.weekday().number()
+                d.weekday().number(),
+                if d.is_julian() { "OS" } else { "NS" }
             )?,
             None => writeln!(out, "!")?,
         }

@@ -18,7 +18,7 @@ made-up c = rw (c .if1 .left) at (c .before .is-genuine .ensures)
 
 -- the day that was found is looked for from the day of the record
 near : (c : tie.After-day-ahead) → IsNeighbour (toward (c .before .before .before .before .args .way) (c .before .before .before .before .args .date .jdn)) (c .day-ahead .result)
-near c = rw (toZ-ofZ (sfits-of (c .before .struct-told .given .1 .1 .1 .1 .1 .1 .0 .1))) at (c .day-ahead .ensures)
+near c = rw (toZ-ofZ (sfits-of (c .before .struct-told .given .1 .1 .1 .1 .1 .1 .1 .0 .1))) at (c .day-ahead .ensures)
 
 is-genuine-requires : tie.Need-is-genuine-requires
 is-genuine-requires c κs = search needs

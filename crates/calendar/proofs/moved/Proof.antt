@@ -10,7 +10,7 @@ use Rattle.calendar.proofs.moved.Statement.{statement}
 use Rattle.calendar.proofs.moved.Tie as tie
 
 jdn-is : (c : tie.After-raised) → unbias (2 ^ 31) (c .raised .result) ≡ c .before .before .before .before .before .args .date .jdn
-jdn-is c = c .raised .ensures ∙ toZ-ofZ (sfits-of (c .before .struct-told .given .1 .1 .1 .1 .1 .1 .0 .1))
+jdn-is c = c .raised .ensures ∙ toZ-ofZ (sfits-of (c .before .struct-told .given .1 .1 .1 .1 .1 .1 .1 .0 .1))
 
 one-on-requires : tie.Need-one-on-requires
 one-on-requires c κs = search needs
@@ -37,7 +37,7 @@ returns c =
     let t = r .before in
     let a = t .before .before .before .before in
     rw (
-      toZ-ofZ (sfits-of (t .struct-told .given .1 .0 .1)),
+      toZ-ofZ (sfits-of (t .struct-told .given .1 .1 .0 .1)),
       t .before .before .before .one-on .ensures,
       t .before .before .one-on2 .ensures,
       t .before .one-on3 .ensures,

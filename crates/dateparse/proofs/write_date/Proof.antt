@@ -20,7 +20,7 @@ returns : tie.Need-returns
 returns c =
     let w = c .before .before in
     let t = w .before .before .before in
-    passes (rw (t .if1 .taken) at (t .before .is-genuine .ensures)) (rw (toZ-ofZ (sfits-of (w .before .struct-told .given .1 .0 .1))) at (w .write-ymd .ensures))
+    passes (rw (t .if1 .taken) at (t .before .is-genuine .ensures)) (rw (toZ-ofZ (sfits-of (w .before .struct-told .given .1 .1 .0 .1))) at (w .write-ymd .ensures))
 
 refusal-of-requires : tie.Need-refusal-of-requires
 refusal-of-requires c κs = search needs

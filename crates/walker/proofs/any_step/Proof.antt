@@ -20,7 +20,7 @@ genuine c = subst (IsGenuine (on c .date)) (c .if1 .taken) (c .before .is-genuin
 
 -- the step, of the day that the walker holds
 told : (c : tie.After-next-step) → NextStep (on (c .before .before) .kind) (on (c .before .before) .date .jdn) (on (c .before .before) .ended) (c .next-step .result)
-told c = rw (toZ-ofZ (sfits-of (c .before .struct-told .given .1 .1 .1 .1 .1 .1 .0 .1))) at (c .next-step .ensures)
+told c = rw (toZ-ofZ (sfits-of (c .before .struct-told .given .1 .1 .1 .1 .1 .1 .1 .0 .1))) at (c .next-step .ensures)
 
 is-genuine-requires : tie.Need-is-genuine-requires
 is-genuine-requires c κs = search needs

@@ -15,7 +15,7 @@ ended-when-made-requires : tie.Need-ended-when-made-requires
 ended-when-made-requires c κs = search needs
 
 returns : tie.Need-returns
-returns c = passes (rw (c .before .before .if1 .taken) at (c .before .before .before .is-genuine .ensures)) (made (rw (toZ-ofZ (sfits-of (c .before .struct-told .given .1 .1 .1 .1 .1 .1 .0 .1))) at (c .ended-when-made .ensures)))
+returns c = passes (rw (c .before .before .if1 .taken) at (c .before .before .before .is-genuine .ensures)) (made (rw (toZ-ofZ (sfits-of (c .before .struct-told .given .1 .1 .1 .1 .1 .1 .1 .0 .1))) at (c .ended-when-made .ensures)))
 
 refusal-of-requires : tie.Need-refusal-of-requires
 refusal-of-requires c κs = search needs

@@ -16,7 +16,7 @@ use Rattle.walker.proofs.on_day.Tie as tie
 returns : tie.Need-returns
 returns c =
     let a = c .before .before .before in
-    let e = sym (toZ-ofZ (sfits-of (c .before .struct-told .given .1 .1 .1 .1 .1 .1 .0 .1))) ∙ ap (toZ w32) (sym (c .if1 .taken)) ∙ toZ-ofZ (a .fits .jdn) in
+    let e = sym (toZ-ofZ (sfits-of (c .before .struct-told .given .1 .1 .1 .1 .1 .1 .1 .0 .1))) ∙ ap (toZ w32) (sym (c .if1 .taken)) ∙ toZ-ofZ (a .fits .jdn) in
     subst (λ (n : ℤ). IsRecord (a .args .date .calendar) n (a .args .date)) e (a .pre .is-record)
 
 at-jdn-requires : tie.Need-at-jdn-requires

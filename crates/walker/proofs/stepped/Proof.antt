@@ -43,7 +43,7 @@ is-last-requires : tie.Need-is-last-requires
 is-last-requires c κs = search needs
 
 returns-2 : tie.Need-returns-2
-returns-2 c = let h = c .before .before .before in gives-next (on h) (runs-on h) (sym (h .gives-held .ensures) ∙ c .before .before .if2 .left) (rw (toZ-ofZ (sfits-of (c .before .struct-told .given .1 .1 .1 .1 .1 .1 .0 .1))) at (c .is-last .ensures)) (near h)
+returns-2 c = let h = c .before .before .before in gives-next (on h) (runs-on h) (sym (h .gives-held .ensures) ∙ c .before .before .if2 .left) (rw (toZ-ofZ (sfits-of (c .before .struct-told .given .1 .1 .1 .1 .1 .1 .1 .0 .1))) at (c .is-last .ensures)) (near h)
 
 any-step-requires : tie.Need-any-step-requires
 any-step-requires c κs = search needs

@@ -22,7 +22,7 @@ at-jdn-requires : tie.Need-at-jdn-requires
 at-jdn-requires c κs = search needs
 
 returns : tie.Need-returns
-returns c = converts-row (genuine (c .before .before)) (rw (toZ-ofZ (sfits-of (c .before .struct-told .given .1 .1 .1 .1 .1 .1 .0 .1))) at (c .at-jdn .ensures))
+returns c = converts-row (genuine (c .before .before)) (rw (toZ-ofZ (sfits-of (c .before .struct-told .given .1 .1 .1 .1 .1 .1 .1 .0 .1))) at (c .at-jdn .ensures))
 
 made-up-requires : tie.Need-made-up-requires
 made-up-requires c κs = search needs

@@ -26,14 +26,14 @@ same-fields-requires : tie.Need-same-fields-requires
 same-fields-requires c κs = search needs
 
 returns : tie.Need-returns
-returns c = genuine-refused (c .enum-told .given .1) (at-same-jdn (toZ-ofZ (sfits-of (c .before .before .before .struct-told .given .1 .1 .1 .1 .1 .1 .0 .1))) (c .before .before .at-jdn .ensures))
+returns c = genuine-refused (c .enum-told .given .1) (at-same-jdn (toZ-ofZ (sfits-of (c .before .before .before .struct-told .given .1 .1 .1 .1 .1 .1 .1 .0 .1))) (c .before .before .at-jdn .ensures))
 
 returns-2 : tie.Need-returns-2
 returns-2 c =
     let g = c .before .before .before .before in
     let a = g .before .before in
     genuine-compared (a .before .before .args .self) (g .given .given .0 .0) (c .same-fields .result)
-    (at-same-jdn (toZ-ofZ (sfits-of (a .before .struct-told .given .1 .1 .1 .1 .1 .1 .0 .1))) (rw (g .given .given .1) at (a .at-jdn .ensures)))
+    (at-same-jdn (toZ-ofZ (sfits-of (a .before .struct-told .given .1 .1 .1 .1 .1 .1 .1 .0 .1))) (rw (g .given .given .1) at (a .at-jdn .ensures)))
     (rw (c .before .before .fields-of .ensures, c .before .fields-of2 .ensures) at (c .same-fields .ensures))
 
 pub is-genuine-spec : {M : Type 1} → statement M

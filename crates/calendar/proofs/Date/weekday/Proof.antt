@@ -24,7 +24,7 @@ for-jdn-requires : tie.Need-for-jdn-requires
 for-jdn-requires c κs = search needs
 
 returns : tie.Need-returns
-returns c = passes (genuine (c .before .before)) (ap Counted′.Number (c .for-jdn .ensures ∙ ap D.weekday (toZ-ofZ (sfits-of (c .before .struct-told .given .1 .1 .1 .1 .1 .1 .0 .1)))))
+returns c = passes (genuine (c .before .before)) (ap Counted′.Number (c .for-jdn .ensures ∙ ap D.weekday (toZ-ofZ (sfits-of (c .before .struct-told .given .1 .1 .1 .1 .1 .1 .1 .0 .1)))))
 
 refusal-of-requires : tie.Need-refusal-of-requires
 refusal-of-requires c κs = search needs

@@ -3,6 +3,7 @@
 use Prim.Native.Nat.{_-_}
 use borrow.Author.Needs.{needs, sfits-of}
 use mir.Facts.{toZ-ofZ}
+use Rattle.calendar.specs.One.{whole}
 use Rattle.calendar.specs.Laws.{given-place, given-far, given-none}
 use Rattle.calendar.proofs.record.given.Statement.{statement}
 use Rattle.calendar.proofs.record.given.Tie as tie
@@ -29,6 +30,7 @@ refused-year-requires-2 : tie.Need-refused-year-requires-2
 refused-year-requires-2 c κs = search needs
 
 returns : tie.Need-returns
+unfolding whole
 returns c =
     let n = c .before .before .before in
     let a = n .before .before in

@@ -6,6 +6,7 @@ use native.Mathlib.Omega.{arith}
 use borrow.Author.Needs.{needs}
 use Rattle.calendar.specs.Natural.{LabelAt}
 use Rattle.calendar.specs.Laws.{label-turning, later-refused, later-at, later-first, place-room}
+use Rattle.calendar.specs.declared.Style.the-variants as Style′
 use Rattle.calendar.proofs.record.later_label.Statement.{statement}
 use Rattle.calendar.proofs.record.later_label.Tie as tie
 
@@ -16,7 +17,7 @@ nought : {m : ℕ} → m ≡ 0 → 1 ≤ m → ⊥
 nought e h = omega arith
 
 placed : (c : tie.After-earlier) → LabelAt (start c .args .switch) (start c .args .year) (start c .args .month) (start c .args .day)
-    (record { past = c .earlier .result + c .before .before .before .turning .result / 4_294_967_296; ordinal = c .before .before .before .turning .result / 4_294_967_296; month = start c .args .month; day = start c .args .day; «day_ordinal» = c .before .before .before .turning .result % 4_294_967_296 })
+    (record { past = c .earlier .result + c .before .before .before .turning .result / 4_294_967_296; ordinal = c .before .before .before .turning .result / 4_294_967_296; month = start c .args .month; day = start c .args .day; «day_ordinal» = c .before .before .before .turning .result % 4_294_967_296; style = Style′.Gregorian })
 placed c =
     let a = start c in
     later-at (a .args .year) (a .pre .1) (label-turning (a .args .month) (a .pre .0 .0) (c .before .before .before .turning .ensures)) (c .before .before .if1 .left)

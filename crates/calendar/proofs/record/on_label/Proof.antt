@@ -2,7 +2,6 @@
 -- Assumes nothing.
 use mathlib.Core.Path.{_≡_, _∙_}
 use Prim.Native.Nat.{_-_}
-use native.Mathlib.Omega.{arith}
 use borrow.Author.Needs.{needs}
 use mir.Syntax.{w32}
 use mir.Val.{toZ, ofZ}
@@ -21,7 +20,7 @@ abbrev start : tie.After-raised → tie.Start
 start c = c .before .before .before
 
 month-is : (c : tie.After-raised) → Month (start c .args .month)
-month-is c = (c .before .before .if1 .left, c .before .if2 .left)
+month-is c = rw (c .before .if1 .taken) at (c .before .before .is-month .ensures)
 
 biased-year-is : (c : tie.After-raised) → year (biasedYear (c .raised .result)) ≡ toZ w32 (ofZ w32 (c .before .before .before .args .year))
 biased-year-is c = biased-year (c .raised .result) ∙ c .raised .ensures
@@ -29,17 +28,8 @@ biased-year-is c = biased-year (c .raised .result) ∙ c .raised .ensures
 year-is : (c : tie.After-raised) → year (biasedYear (c .raised .result)) ≡ c .before .before .before .args .year
 year-is c = biased-year-is c ∙ toZ-ofZ (c .before .before .before .fits .year)
 
-refused-count-requires : tie.Need-refused-count-requires
-refused-count-requires c κs = search needs
-
-returns : tie.Need-returns
-returns c = rw (c .refused-count .ensures) (passes (c .before .before .pre .accepted) (refuses (λ v. omega (arith, v .0, c .before .if1 .taken))))
-
-refused-count-requires-2 : tie.Need-refused-count-requires-2
-refused-count-requires-2 c κs = search needs
-
-returns-2 : tie.Need-returns-2
-returns-2 c = rw (c .refused-count2 .ensures) (passes (c .before .before .before .pre .accepted) (refuses (λ v. omega (arith, v .1, c .before .if2 .taken))))
+is-month-requires : tie.Need-is-month-requires
+is-month-requires c κs = search needs
 
 raised-requires : tie.Need-raised-requires
 raised-requires c κs = search needs
@@ -61,33 +51,38 @@ given-requires c κs =
 enum-known-refusal : tie.Need-enum-known-refusal
 enum-known-refusal c = search needs
 
-returns-3 : tie.Need-returns-3
-returns-3 c =
+returns : tie.Need-returns
+returns c =
     let n = c .before .before .before .before in
     let y = n .before in
     let a = start y in
     let (i, e, f) = rw (c .before .before .p .given .1) at (n .label-place .ensures) in
     place-ymd (a .args .calendar) (a .pre) (year-is y) i e f (rw (toZ-ofZ (a .fits .year)) at (c .given .ensures))
 
-returns-4 : tie.Need-returns-4
-returns-4 c =
+returns-2 : tie.Need-returns-2
+returns-2 c =
     let n = c .before .before .before in
     let y = n .before in
     let a = start y in
     passes (a .pre .accepted) (passes (month-is y) (refused-row (a .args .calendar) (a .pre) (raised-year-biased (y .raised .ok)) (year-is y) Dated′.Refused (rw (c .before .refusal .given .1) at (n .label-place .ensures))))
 
+refused-count-requires : tie.Need-refused-count-requires
+refused-count-requires c κs = search needs
+
+returns-3 : tie.Need-returns-3
+returns-3 c = rw (c .refused-count .ensures) (passes (c .before .before .before .pre .accepted) (refuses (rw (c .before .if1 .left) at (c .before .before .is-month .ensures))))
+
 pub on-label-spec : {M : Type 1} → statement M
 on-label-spec =
     tie.close
     (tie.spec
-    refused-count-requires
-    returns
-    refused-count-requires-2
-    returns-2
+    is-month-requires
     raised-requires
     label-place-requires
     enum-known-p
     given-requires
     enum-known-refusal
-    returns-3
-    returns-4)
+    returns
+    returns-2
+    refused-count-requires
+    returns-3)

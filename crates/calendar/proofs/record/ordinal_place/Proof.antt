@@ -6,22 +6,24 @@ use native.Mathlib.Omega.{arith}
 use borrow.Author.Needs.{needs}
 use Rattle.inner.specs.Laws.{raised-year-biased}
 use Rattle.switches.specs.Laws.{year-in-room, year-wholly}
+use Rattle.calendar.specs.declared.Style.the-variants as Style′
 use Rattle.calendar.specs.Natural.{IsPlace, plainPlace, ordinal-at-place}
 use Rattle.calendar.specs.Laws.{plain-room, off-low, off-whole, off-span, whole-place, span-old, span-later, turned-place}
 use Rattle.calendar.proofs.record.ordinal_place.Statement.{statement}
 use Rattle.calendar.proofs.record.ordinal_place.Tie as tie
 
-whole : (c : tie.After-spot-at) → IsPlace (c .before .before .before .before .before .before .before .args .switch) (c .before .before .before .before .before .before .before .args .year) (plainPlace (c .spot-at .result)) × (c .spot-at .result .ordinal ≡ c .before .before .before .before .before .before .before .args .ordinal)
+whole : (c : tie.After-style-at) → IsPlace (c .before .before .before .before .before .before .before .before .args .switch) (c .before .before .before .before .before .before .before .before .args .year) (plainPlace (c .style-at .result) (c .before .spot-at .result)) × (c .before .spot-at .result .ordinal ≡ c .before .before .before .before .before .before .before .before .args .ordinal)
 whole c =
-    let d = c .before .before .before in
+    let p = c .before in
+    let d = p .before .before .before in
     let y = d .before .before in
     let a = y .before .before in
-    whole-place (a .args .year) (raised-year-biased (a .fits .year .fits)) (c .spot-at .result) (a .pre) (year-wholly (y .year-in .ensures) (d .before .if2 .taken)) (y .before .if1 .left) (rw (d .days-in-year .ensures) at (c .before .before .if3 .left)) (c .spot-at .ensures)
+    whole-place (a .args .year) (raised-year-biased (a .fits .year .fits)) (p .spot-at .result) (a .pre) (year-wholly (y .year-in .ensures) (d .before .if2 .taken)) (y .before .if1 .left) (rw (d .days-in-year .ensures) at (p .before .before .if3 .left)) (p .spot-at .ensures) (c .style-at .ensures)
 
 abbrev start : tie.After-year-span → tie.Start
 start c = c .before .before .before .before
 
-old : (c : tie.After-spot-at2) → IsPlace (start (c .before .before .before .before .before .before) .args .switch) (start (c .before .before .before .before .before .before) .args .year) (plainPlace (c .spot-at2 .result)) × (c .spot-at2 .result .ordinal ≡ start (c .before .before .before .before .before .before) .args .ordinal)
+old : (c : tie.After-spot-at2) → IsPlace (start (c .before .before .before .before .before .before) .args .switch) (start (c .before .before .before .before .before .before) .args .year) (plainPlace Style′.Julian (c .spot-at2 .result)) × (c .spot-at2 .result .ordinal ≡ start (c .before .before .before .before .before .before) .args .ordinal)
 old c =
     let s = c .before .before .before .before .before .before in
     let a = start s in
@@ -59,8 +61,11 @@ sub-biased c = search needs
 spot-at-requires : tie.Need-spot-at-requires
 spot-at-requires c κs = search needs
 
+style-at-requires : tie.Need-style-at-requires
+style-at-requires c κs = search needs
+
 plain-place-requires : tie.Need-plain-place-requires
-plain-place-requires c κs = plain-room (c .spot-at .result) (whole c .0)
+plain-place-requires c κs = plain-room (c .before .spot-at .result) (whole c .0)
 
 returns-3 : tie.Need-returns-3
 returns-3 c = rw (c .plain-place .ensures) (ordinal-at-place (whole (c .before) .0) (whole (c .before) .1))
@@ -101,14 +106,14 @@ turning-requires c κs = λ e.
     let a = s .before .before .before .before in
     span-later (a .args .year) (raised-year-biased (a .fits .year .fits)) (a .pre) (s .year-span .ensures) (s .before .before .before .if1 .left) (c .before .if4 .left) (c .if5 .left)
 
-cast-t25 : tie.Need-cast-t25
-cast-t25 c = search needs
-
-cast-t28 : tie.Need-cast-t28
-cast-t28 c = search needs
+cast-t27 : tie.Need-cast-t27
+cast-t27 c = search needs
 
 cast-t30 : tie.Need-cast-t30
 cast-t30 c = search needs
+
+cast-t32 : tie.Need-cast-t32
+cast-t32 c = search needs
 
 returns-6 : tie.Need-returns-6
 returns-6 c =
@@ -129,6 +134,7 @@ ordinal-place-spec =
     add-biased
     sub-biased
     spot-at-requires
+    style-at-requires
     plain-place-requires
     returns-3
     year-span-requires
@@ -141,7 +147,7 @@ ordinal-place-spec =
     plain-place-requires-2
     returns-5
     turning-requires
-    cast-t25
-    cast-t28
+    cast-t27
     cast-t30
+    cast-t32
     returns-6)

@@ -58,14 +58,14 @@ lowered-requires c κs = search needs
 sub-t8 : tie.Need-sub-t8
 sub-t8 c = let a = start c in reform-year-room (a .args .s) (a .pre .1) (a .pre .3) (year-first c) .0
 
-cast-t12 : tie.Need-cast-t12
-cast-t12 c = let a = start c in record { fits = reform-year-room (a .args .s) (a .pre .1) (a .pre .3) (year-first c) .1 }
+cast-t13 : tie.Need-cast-t13
+cast-t13 c = let a = start c in record { fits = reform-year-room (a .args .s) (a .pre .1) (a .pre .3) (year-first c) .1 }
 
 sub-t9 : tie.Need-sub-t9
 sub-t9 c = let a = start c in reform-month-room (a .args .s) (a .pre .1) (a .pre .3) (month-first c) .0
 
-cast-t13 : tie.Need-cast-t13
-cast-t13 c = let a = start c in record { fits = reform-month-room (a .args .s) (a .pre .1) (a .pre .3) (month-first c) .1 }
+cast-t14 : tie.Need-cast-t14
+cast-t14 c = let a = start c in record { fits = reform-month-room (a .args .s) (a .pre .1) (a .pre .3) (month-first c) .1 }
 
 returns : tie.Need-returns
 returns c =
@@ -88,7 +88,7 @@ reform-record-spec =
     first-day-requires-2
     lowered-requires
     sub-t8
-    cast-t12
-    sub-t9
     cast-t13
+    sub-t9
+    cast-t14
     returns)
