@@ -410,27 +410,34 @@ fn is_usual(
 ) -> bool
     ensures { λ b. ⌜ IsUsual (whole calendar year ordinal month day «day_ordinal» jdn style) b ⌝ }
 {
+    is_usual_date(Date {
+        calendar: calendar,
+        style: style,
+        year: year,
+        ordinal: ordinal,
+        month: month,
+        day: day,
+        day_ordinal: day_ordinal,
+        jdn: jdn,
+    })
+}
+
+fn is_usual_date(date: Date) -> bool
+    ensures { λ b. ⌜ IsUsual date b ⌝ }
+{
+    let calendar = date.calendar;
     match switch_of(calendar) {
         Switch::MadeUp => false,
         Switch::At(switch) => {
-            let at = switches::year_in(switch, raised(year));
+            let at = switches::year_in(switch, raised(date.year));
             if at.whole {
-                return match monthdays::md2ordinal(at.leap, month, day) {
+                return match monthdays::md2ordinal(at.leap, date.month, date.day) {
                     DayOrdinal::Nothing => false,
-                    DayOrdinal::At(own) => is_on(
-                        Date {
-                            calendar: calendar,
-                            style: style,
-                            year: year,
-                            ordinal: ordinal,
-                            month: month,
-                            day: day,
-                            day_ordinal: day_ordinal,
-                            jdn: jdn,
-                        },
+                    DayOrdinal::At(ordinal) => is_on(
+                        date,
                         switch,
-                        at.first + own as u64,
-                        own,
+                        at.first + ordinal as u64,
+                        ordinal,
                     ),
                 };
             }
