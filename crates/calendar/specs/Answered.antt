@@ -6,7 +6,7 @@ use Prim.Native.Nat.{ℕ, _+_, _-_, _<_, _≤_}
 use native.Mathlib.Omega.{arith}
 use lib.IntN.{ℤ, pos}
 use Rattle.whole.specs.Tests as N
-use Rattle.days.specs.DayByDay.{Label, label, Timeline, labelsIn, Borne, OfYear, Place, Is32Bit, Month, Rising, SkippedIn}
+use Rattle.days.specs.DayByDay.{Label, label, Timeline, labelsIn, OfYear, Place, Is32Bit, Month, Rising}
 use Rattle.days.specs.RisingLabels.{days-one}
 use Rattle.days.specs.RisingSpans.{Stretch}
 use Rattle.days.specs.BiasedDays.{dayBias, day}

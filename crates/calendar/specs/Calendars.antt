@@ -19,7 +19,7 @@ definitionOf (Reforming r) = D.Reforming r
 abbrev pub timeline : Calendar → Timeline
 timeline c = D.timeline (definitionOf c)
 
--- the label of each day; which calendars are accepted, any other being made up; which labels are skipped, and which missing
+-- the label of each day; which calendars are accepted, any other being made up; which labels are skipped
 abbrev pub labels : Calendar → ℤ → Label
 labels c = D.labels (definitionOf c)
 
@@ -28,9 +28,6 @@ Accepted c = D.Accepted (definitionOf c)
 
 abbrev pub Skipped : Calendar → Label → Type 0
 Skipped c l = D.Skipped (definitionOf c) l
-
-abbrev pub Missing : Calendar → Label → Type 0
-Missing c l = D.Missing (definitionOf c) l
 
 -- the style that records name so
 abbrev pub styleOf : D.Style → Style

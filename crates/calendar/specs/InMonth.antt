@@ -5,7 +5,6 @@ use mathlib.Core.Bool.{Bool, true, false}
 use mathlib.Core.Logic.{⊎-elim}
 use Prim.Native.Nat.{ℕ, suc, _+_, _-_, _<_, _≤_, _^_}
 use native.Mathlib.Omega.{arith}
-use native.Mathlib.Numerals.{add-one}
 use borrow.Author.Tests.{eqb-true, eqb-false}
 use lib.Dec.{eqb}
 use lib.IntN.{ℤ, sucℤ, predℤ, -ℤ-one}
@@ -13,7 +12,7 @@ use Rattle.whole.specs.Whether.{Whether}
 use Rattle.whole.specs.Tests.{true-or-false}
 use Rattle.whole.specs.Biased.{unbias-suc, unbias-back, unbias-injective}
 use Rattle.whole.specs.Promise.{unbias}
-use Rattle.days.specs.DayByDay.{Label, label, style, Is32Bit, Month, Borne, monthLength}
+use Rattle.days.specs.DayByDay.{label, style, Is32Bit}
 use Rattle.days.specs.RisingLabels.{once}
 use Rattle.days.specs.ReckoningSteps.{month-least}
 use Rattle.days.specs.ClosedEnds.{suc-is, pred-is}
@@ -31,10 +30,9 @@ use Rattle.monthdays.specs.declared.DayOrdinal.the-variants as DayOrdinal′
 use Rattle.switches.specs.declared.PlainYear.{PlainYear}
 use Rattle.switches.specs.Promise.{YearIn}
 use Rattle.switches.specs.One.{year-in-one}
-use Rattle.switches.specs.Laws.{Wholly, wholly-old, wholly-new, year-wholly, wholly-none, ordinal-sum, ordinal-some, ordinal-none}
+use Rattle.switches.specs.Laws.{Wholly, wholly-old, wholly-new, wholly-none, ordinal-sum, ordinal-none}
 use Rattle.ways.specs.Promise.{beside, Inside}
 use Rattle.ways.specs.Laws.{room-up, room-down}
-use Rattle.calendar.specs.declared.Calendar.{Calendar}
 use Rattle.calendar.specs.declared.Date.{Date}
 use Rattle.calendar.specs.declared.Dated.the-variants as Dated′
 use Rattle.calendar.specs.declared.Near.{Near}

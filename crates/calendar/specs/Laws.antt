@@ -34,7 +34,7 @@ use Rattle.inner.specs.declared.DayNumber.the-variants as DayNumber′
 use Rattle.monthdays.specs.declared.DayOrdinal.the-variants as DayOrdinal′
 use Rattle.fields.specs.declared.Fields.{Fields}
 use Rattle.fields.specs.Promise.{IsSame}
-use Rattle.switches.specs.Promise.{Judges, accepts-biased, refuses-with-1, refuses-with-2, YearSpan, NoneBelow, Finds, finds-old, finds-new, finds-gap, finds-none, RefusesNonGregorian, taken-away, never-there}
+use Rattle.switches.specs.Promise.{Judges, accepts-biased, refuses-with-1, refuses-with-2, YearSpan, Finds, finds-old, finds-new, finds-gap, finds-none, RefusesNonGregorian, taken-away, never-there}
 use Rattle.switches.specs.JudgingLaws.{refused-not}
 use Rattle.switches.specs.declared.reformation.Judgement.the-variants as Judgement′
 use Rattle.calendar.specs.declared.Calendar.{Calendar}

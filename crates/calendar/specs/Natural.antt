@@ -31,7 +31,7 @@ use Rattle.inner.specs.declared.Spot.{Spot}
 use Rattle.inner.specs.Spots.{At, spot}
 use Rattle.calendar.specs.declared.ReformDate.{ReformDate}
 use Rattle.calendar.specs.declared.ReformDate.the-variants as ReformDate′
-use Rattle.calendar.specs.Calendars.{definitionOf, labels, Accepted}
+use Rattle.calendar.specs.Calendars.{definitionOf, Accepted}
 use Rattle.calendar.specs.Rows.{Unless}
 use Rattle.switches.specs.declared.Found.the-variants as Found′
 use Rattle.switches.specs.Promise.{NoneBelow, NotOver, Finds}

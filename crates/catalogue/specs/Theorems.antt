@@ -14,9 +14,8 @@ use lib.Seq.{getD-append-seam}
 use lib.IntN.{ℤ, pos}
 use Rattle.days.specs.DayByDay.{AcceptedReformation, reforming-accepted}
 use Rattle.days.specs.ReformationTable.{judged-some}
-use Rattle.days.specs.ReformationRules.{accepted, all-three, no-day-before, no-julian-day, not-later}
+use Rattle.days.specs.ReformationRules.{all-three, no-day-before, no-julian-day, not-later}
 use Rattle.refusals.specs.declared.Refusal.{Refusal}
-use Rattle.refusals.specs.Promise.{refusal}
 use Rattle.calendar.specs.Calendars.{Accepted}
 use Rattle.calendar.specs.Rows.{refuses, passes}
 use Rattle.calendar.specs.RowLaws.{One}

@@ -11,7 +11,7 @@ use mathlib.Core.Logic.{⊎-elim}
 use Rattle.whole.specs.Tests.{true-or-false}
 use lib.Dec.{eqb}
 use lib.IntN.{ℤ, pos, negsuc}
-use lib.ListN.{length, take}
+use lib.ListN.{length}
 use lib.Signed.{ltZ}
 use Rattle.whole.specs.Text.{bytes}
 use Rattle.writer.specs.Promise.{put, Copies, Signs, Decimal}

@@ -12,13 +12,12 @@ use Rattle.filter.specs.declared.Phase.the-variants.{Failing}
 use Rattle.filter.specs.declared.State.{State}
 use Rattle.filter.specs.Promise.{stateWith}
 use Rattle.filter.specs.One.{puts-message-one}
-use Rattle.refusals.specs.declared.Refusal.{Refusal}
 use Rattle.nametable.specs.Promise.{Memory}
 use Rattle.catalogue.specs.declared.Added.{Added}
 use Rattle.catalogueread.specs.Promise.{readState, Reached, going, stopped, ReadsBlock, ReadsLast}
 use Rattle.catalogueread.specs.One.{read-block-one, read-last-one}
 use Rattle.cataloguerun.specs.declared.CatalogueRun.{CatalogueRun}
-use Rattle.cataloguerun.specs.Promise.{Advances, Closes, GoesOn, refusedAt, wordsOf, Reason, reason, Reasons, reasons, Complains}
+use Rattle.cataloguerun.specs.Promise.{Advances, Closes, GoesOn, refusedAt, wordsOf, Reason, reason, reasons, Complains}
 
 -- what a block that was read comes to
 memoryOf : Reached → Memory

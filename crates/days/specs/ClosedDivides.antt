@@ -6,7 +6,6 @@ use Prim.Native.Nat.{ℕ, _-_, _<_, _≤_, _%_}
 use native.Mathlib.Omega.{arith}
 use borrow.Author.Tests.{eq-eqb, ne-eqb}
 use lib.Dec.{eqb}
-use lib.IntN.{ℤ}
 use Rattle.days.specs.DayByDay.{divides}
 use Rattle.whole.specs.Tests.{lt-or-ge, eq-or-not}
 use Rattle.whole.specs.Biased.{abs-below, abs-above}

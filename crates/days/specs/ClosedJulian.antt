@@ -1,7 +1,7 @@
 -- The Julian calendar in biased naturals: the first day of each year, and so the label of every day.
 -- Assumes nothing.
 use mathlib.Core.Path.{_≡_, ap}
-use mathlib.Core.Bool.{Bool, cond}
+use mathlib.Core.Bool.{Bool}
 use mathlib.Core.Logic.{_⊎_, ⊎-elim}
 use Prim.Native.Nat.{ℕ, suc, _+_, _*_, _/_, _%_}
 use native.Mathlib.Omega.{arith}
@@ -11,7 +11,6 @@ use Rattle.days.specs.DayByDay.{julian, julianLeap, monthLength}
 use Rattle.whole.specs.Tests.{eq-or-not}
 use Rattle.days.specs.ReckoningSteps.{Valid, label-anchor}
 use Rattle.days.specs.ClosedYear.{yearLength, dayOfMonth, through}
-use Rattle.days.specs.BiasedDays.{year}
 use Rattle.days.specs.ClosedDivides.{divides-4}
 use Rattle.days.specs.ClosedStarts.{Starts}
 

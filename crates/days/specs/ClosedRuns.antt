@@ -5,14 +5,13 @@
 use mathlib.Core.Path.{_≡_, refl, sym, _∙_, ap, subst, subst₂}
 use mathlib.Core.Bool.{Bool, cond}
 use mathlib.Core.Logic.{inl, ⊎-elim}
-use Prim.Native.Nat.{ℕ, _+_, _-_, _/_, _<_, _≤_}
+use Prim.Native.Nat.{ℕ, _+_, _-_, _<_, _≤_}
 use native.Mathlib.Omega.{arith}
 use native.Mathlib.Numerals.{add-one}
 use native.Mathlib.Nat.{le-refl, le-of-lt, lt-of-le-of-lt, lt-of-lt-of-le}
 use borrow.Author.Tests.{lt-ltb, le-ltb}
 use lib.Dec.{ltb}
 use lib.IntN.{ℤ, pos, sucℤ, _-ℤ_}
-use lib.Signed.{_<ℤ_, _≤ℤ_}
 use Rattle.whole.specs.Tests as N
 use Rattle.whole.specs.Biased.{unbias-suc, unbias-back, unbias-injective}
 use Rattle.whole.specs.Integers.{lt-or-ge, unbias-up, unbias-down, unbias-le}

@@ -6,7 +6,7 @@ use mathlib.Core.Path.{_≡_, sym, _∙_, ap}
 use mathlib.Core.Bool.{Bool}
 use Prim.Native.Nat.{ℕ, zero, suc, _+_, _-_, _<_, _≤_}
 use native.Mathlib.Omega.{arith}
-use lib.IntN.{ℤ, pos, _-ℤ_}
+use lib.IntN.{ℤ}
 use Rattle.days.specs.DayByDay.{Label, label, Reckoning, labelOf}
 use Rattle.days.specs.ReckoningSteps.{Valid, month-some, after, after-injective, label-valid, label-after}
 use Rattle.days.specs.ClosedYear.{yearLength, dayOfYear, year-walk, year-over}

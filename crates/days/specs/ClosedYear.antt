@@ -8,7 +8,7 @@ use mathlib.Core.Logic.{_⊎_, inl, inr, ⊎-elim}
 use Prim.Native.Nat.{ℕ, zero, suc, _-_, _<_, _≤_}
 use native.Mathlib.Omega.{arith}
 use lib.Dec.{T, leb, ltb, eqb, leb→le, ltb→lt, eqb→eq}
-use lib.IntN.{ℤ, pos, sucℤ}
+use lib.IntN.{ℤ, sucℤ}
 use Rattle.days.specs.DayByDay.{Label, label, LeapRule, monthLengths, monthLength, nextLabel}
 use Rattle.whole.specs.Tests.{all-at, and-left, and-right}
 use Rattle.days.specs.ReckoningSteps.{next-day, next-month, next-year, after, december}

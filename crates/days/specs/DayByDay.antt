@@ -8,7 +8,7 @@ use Prim.Native.Nat.{ℕ, zero, suc, _-_, _<_, _≤_, _%_}
 use lib.Dec.{ltb, eqb}
 use lib.IntN.{ℤ, pos, negsuc, sucℤ, predℤ, natAbs, _+ℤ_, _-ℤ_, _*ℤ_}
 use lib.ListN.{getD}
-use lib.Signed.{ltZ, leZ, _<ℤ_, _≤ℤ_}
+use lib.Signed.{ltZ, _<ℤ_, _≤ℤ_}
 use mir.Syntax.{w32}
 use mir.Val.{SFits}
 

@@ -1,13 +1,13 @@
 -- The known days that the scope document marks as to be proved, all under one statement about the definitions.
 -- Assumes nothing.
 use mathlib.Core.Path.{_≡_, refl, ap}
-use Prim.Native.Nat.{ℕ, _+_, _-_, _<_, _≤_}
+use Prim.Native.Nat.{ℕ, _+_, _-_, _≤_}
 use native.Mathlib.Omega.{arith}
 use lib.Dec.{T, leb, ltb}
 use lib.IntN.{ℤ, pos, negsuc}
 use mathlib.Core.Bool.{Bool, _&&_}
 use mir.Facts.{and-yes, leb-yes, ltb-yes}
-use Rattle.days.specs.DayByDay.{Label, label, monthLength, Calendar, Julian, Gregorian, Reforming, labels, OfYear, Place, Ordinal, DayOrdinal, YearLength, Skipped, Missing, weekday, UnixTime}
+use Rattle.days.specs.DayByDay.{Label, label, monthLength, Calendar, Julian, Gregorian, Reforming, labels, Ordinal, DayOrdinal, YearLength, Skipped, Missing, weekday, UnixTime}
 use Rattle.days.specs.BiasedDays.{day, year, BiasedYear}
 use Rattle.days.specs.ClosedJulian as J
 use Rattle.days.specs.ClosedGregorian as G

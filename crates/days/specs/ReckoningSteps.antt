@@ -10,7 +10,7 @@ use native.Mathlib.Nat.{add-zero, add-suc}
 use borrow.Author.Tests.{lt-ltb, le-ltb}
 use lib.Dec.{T, leb, leb→le}
 use lib.IntN.{ℤ, pos, negsuc, sucℤ, predℤ, negℤ, _+ℤ_, _-ℤ_, suc-pred, pred-suc, sucℤ-+ℤ, +ℤ-sucℤ, +ℤ-one, +ℤ-invr, +ℤ-idr}
-use Rattle.days.specs.DayByDay.{Label, label, LeapRule, monthLengths, monthLength, nextLabel, prevLabel, stepping, Reckoning, labelOf}
+use Rattle.days.specs.DayByDay.{Label, label, LeapRule, monthLength, nextLabel, prevLabel, stepping, Reckoning, labelOf}
 use Rattle.whole.specs.Tests.{lt-or-ge, all, all-at}
 
 -- the label names a day

@@ -1,7 +1,7 @@
 -- Every label that the Gregorian calendar has the Julian one has too, at every whole number: so a label that counts as skipped where it falls into a
 -- gap is one of the Julian calendar.
 -- Assumes nothing.
-use mathlib.Core.Path.{_≡_, refl, sym, _∙_, ap, subst}
+use mathlib.Core.Path.{_≡_, sym, _∙_, ap, subst}
 use mathlib.Core.Bool.{Bool, true, false, not, _&&_}
 use mathlib.Core.Logic.{⊎-elim}
 use Prim.Native.Nat.{ℕ, suc, _-_, _<_, _≤_}

@@ -7,7 +7,7 @@ use lib.ListN.{length}
 use lib.IntN.{ℤ, pos, negℤ}
 use Rattle.digits.specs.Numerals.{Numeral, valueOf}
 use Rattle.refusals.specs.declared.Refusal.{Refusal}
-use Rattle.houseline.specs.Form.{Written, Form, form}
+use Rattle.houseline.specs.Form.{Written, Form}
 use Rattle.houseline.specs.Laws.{letters-without, digits-no-dash, leaves-one, form-parts, fits-leaves, form-split}
 use Rattle.houseline.specs.declared.HouseLine.{HouseLine}
 use Rattle.houseline.specs.Promise.{Fits32, LeavesAfter, Reads, reads, outside, malformed}

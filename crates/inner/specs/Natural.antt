@@ -1,5 +1,4 @@
 -- What the conversions say of days and years that are biased as naturals. A 32-bit number that was raised by 2147483648 is biased as somewhat more.
-use mathlib.Core.Path.{_≡_}
 use mathlib.Core.Bool.{Bool}
 use Prim.Native.Nat.{ℕ, _+_, _-_, _≤_}
 use Rattle.days.specs.DayByDay.{Is32Bit}

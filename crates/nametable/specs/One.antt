@@ -9,7 +9,6 @@ use lib.ListN.{length}
 use lib.Seq.{ext-getD}
 use lib.IntN.{ℤ}
 use Rattle.whole.specs.Biased.{unbias-injective}
-use Rattle.nametable.specs.Limits.{slot}
 use Rattle.nametable.specs.Hash.{bucketOf}
 use Rattle.nametable.specs.declared.Found.{Found}
 use Rattle.nametable.specs.Promise.{Memory, memory, Stands, Walk, ended, here, astray, onward, Finds, too-long, lost, walks, entered, linked, Enters, no-slot, no-room, enters}

@@ -20,7 +20,7 @@ use Rattle.calendar.specs.declared.Calendar.{Calendar}
 use Rattle.calendar.specs.declared.Calendar.the-variants.{Julian, Gregorian, Reforming}
 use Rattle.calendar.specs.declared.Chosen.{Chosen}
 use Rattle.calendar.specs.declared.Chosen.the-variants as Chosen′
-use Rattle.ncal.specs.Table.{NameRow, row, table}
+use Rattle.ncal.specs.Table.{NameRow, table}
 use Rattle.ncal.specs.Promise.{InTable, Known, FoundAs, in-table, in-no-row, of-row, NamesCalendar}
 use Rattle.ncal.specs.Search.{among}
 use Rattle.ncal.specs.declared.Found.{Found}

@@ -1,6 +1,5 @@
 -- `cataloguerun::put_text` meets its promise.
 -- Assumes nothing.
-use native.Mathlib.Omega.{arith}
 use Rattle.cataloguerun.specs.Laws.{put-copied, never-full}
 use borrow.Author.Needs.{needs}
 use Rattle.cataloguerun.proofs.put_text.Statement.{statement}

@@ -1,6 +1,6 @@
 -- `monthdays::days_before` meets its promise.
 -- Assumes nothing.
-use Prim.Native.Nat.{_*_, _-_, _/_}
+use Prim.Native.Nat.{_-_}
 use native.Mathlib.Omega.{arith}
 use borrow.Author.Needs.{needs}
 use borrow.Author.Tests.{lt-ltb, le-ltb}

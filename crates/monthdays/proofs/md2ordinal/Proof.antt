@@ -1,7 +1,6 @@
 -- `monthdays::md2ordinal` meets its promise.
 -- Assumes nothing.
 use native.Mathlib.Omega.{arith}
-use borrow.Author.Needs.{needs}
 use Rattle.monthdays.specs.Promise.{no-ordinal}
 use Rattle.monthdays.specs.Laws.{in-year-valid, ordinal-found, ordinal-few}
 use Rattle.monthdays.proofs.md2ordinal.Statement.{statement}

@@ -3,7 +3,7 @@
 use mathlib.Core.Path.{_∙_}
 use mir.Facts.{toZ-ofZ}
 use Rattle.nametable.specs.Laws.{enters-so}
-use Rattle.nametable.specs.Promise.{no-slot, no-room, enters}
+use Rattle.nametable.specs.Promise.{no-slot, no-room}
 use borrow.Author.Needs.{needs}
 use Rattle.nametable.proofs.enter.Statement.{statement}
 use Rattle.nametable.proofs.enter.Tie as tie

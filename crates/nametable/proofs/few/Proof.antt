@@ -1,7 +1,6 @@
 -- `nametable::few` meets its promise.
 -- Assumes nothing.
 use Rattle.nametable.specs.HashLaws.{few-four, few-none, few-some}
-use native.Mathlib.Omega.{arith}
 use borrow.Author.Needs.{needs}
 use Rattle.nametable.proofs.few.Statement.{statement}
 use Rattle.nametable.proofs.few.Tie as tie

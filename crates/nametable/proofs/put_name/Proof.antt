@@ -1,11 +1,6 @@
 -- `nametable::put_name` meets its promise.
 -- Assumes nothing.
 use Rattle.nametable.specs.Laws.{entered-so}
-use mathlib.Core.Path.{ap}
-use mathlib.Core.List.{List}
-use Prim.Native.Nat.{ℕ}
-use lib.ListN.{set}
-use native.Mathlib.Omega.{arith}
 use borrow.Author.Needs.{needs}
 use Rattle.nametable.proofs.put_name.Statement.{statement}
 use Rattle.nametable.proofs.put_name.Tie as tie
