@@ -2,7 +2,6 @@
 
 ghost use mathlib.Core.Path.{_≡_};
 ghost use Prim.Native.Nat.{_+_, _-_, _≤_, _<_};
-ghost use Rattle.whole.specs.Whether.{Whether};
 ghost use Rattle.days.specs.BiasedDays.{day};
 ghost use Rattle.days.specs.ClosedRuns.{Runs, top, julianMonth, monthFirst};
 ghost use Rattle.days.specs.DayByDay.{Month};
@@ -215,22 +214,13 @@ pub fn on_label(calendar: Calendar, switch: u64, year: i32, month: u32, day: u32
     requires { ⌜ Runs (definitionOf calendar) switch ⌝ }
     ensures { λ d. ⌜ AtYmd calendar year month day d ⌝ }
 {
-    if is_month(month) {
+    if monthdays::is_month(month) {
         return match label_place(switch, whole::raised(year), month, day) {
             Placed::At(p) => given(calendar, year, p),
             Placed::Refused(refusal) => Dated::Refused(refusal),
         };
     }
     crate::refused_count(3, month)
-}
-
-fn is_month(month: u32) -> bool
-    ensures { λ b. ⌜ Whether (Month month) b ⌝ }
-{
-    if month < 1 {
-        return false;
-    }
-    month <= 12
 }
 
 fn label_place(switch: u64, year: u32, month: u32, day: u32) -> Placed

@@ -4,6 +4,7 @@
 ghost use mathlib.Core.Path.{_≡_};
 ghost use mathlib.Core.Bool.{true, false};
 ghost use Prim.Native.Nat.{_+_, _≤_, _<_};
+ghost use Rattle.whole.specs.Whether.{Whether};
 ghost use Rattle.days.specs.DayByDay.{monthLength, Month};
 ghost use Rattle.days.specs.ClosedNumbers.{daysBefore, toThirty};
 ghost use Rattle.monthdays.specs.Promise.{MonthDayOf, OrdinalOf, MonthDayAt};
@@ -16,6 +17,15 @@ pub enum MonthDay {
 pub enum DayOrdinal {
     At(u32),
     Nothing,
+}
+
+pub fn is_month(month: u32) -> bool
+    ensures { λ b. ⌜ Whether (Month month) b ⌝ }
+{
+    if month < 1 {
+        return false;
+    }
+    month <= 12
 }
 
 // Month and day of a place in a year.

@@ -1,4 +1,4 @@
--- `calendar::record::is_month` meets its promise.
+-- `monthdays::is_month` meets its promise.
 -- Assumes nothing.
 use Prim.Native.Nat.{ℕ, _≤_}
 use mathlib.Core.Path.{sym, subst}
@@ -9,8 +9,8 @@ use borrow.Author.Tests.{le-leb, lt-leb}
 use Rattle.whole.specs.Tests.{lt-or-ge}
 use Rattle.whole.specs.Whether.{Whether}
 use Rattle.days.specs.DayByDay.{Month}
-use Rattle.calendar.proofs.record.is_month.Statement.{statement}
-use Rattle.calendar.proofs.record.is_month.Tie as tie
+use Rattle.monthdays.proofs.is_month.Statement.{statement}
+use Rattle.monthdays.proofs.is_month.Tie as tie
 
 at-most-twelve : (m : ℕ) → 1 ≤ m → Whether (Month m) (leb m 12)
 at-most-twelve m h = ⊎-elim
