@@ -1,0 +1,1 @@
+-- The days of a month as runs.

@@ -1,0 +1,1 @@
+-- Why a date text is accepted or refused.
