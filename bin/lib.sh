@@ -8,17 +8,20 @@
 # and calls `filter "$@"`: the program runs over the file that is named, or over standard input. Where it is not built, or older than its source, it
 # is proved and built first; progress goes to standard error. Standard output gets nothing but what the program writes.
 # Exit status: 0 that is complete; 1 it is not, and standard error says why; 2 wrong arguments, or the program could not be built.
-# shellcheck shell=sh disable=SC2154 # a script that sources this one sets the names above
+# shellcheck shell=sh disable=SC2154,SC2034 # a script that sources this one sets the names above, and can read those below
 top=$(dirname "$(dirname "$(readlink -f "$0")")")
 program=$top/target/bin/$name
+most=1 operands="one file of $kind" # how many operands there are at most; a script that takes more says so once this is sourced
 
 say() { echo "$name: $1" >&2; }
 
 # ---- Arguments
 
+usage() { echo "usage: bin/$name [--catalogue FILE] [--] [$input] >listing.tsv"; } # a script with other operands has its own
+
 help() {
+    usage
     cat <<END
-usage: bin/$name [--catalogue FILE] [--] [$input] >listing.tsv
 
 $about
 
@@ -37,21 +40,30 @@ wrong() {
     exit 2
 }
 
-# Sets `catalogue`, `file`, and in `files` whether a file was named.
+# The operands are `file` and, for a script that takes two, `text`.
+operand() {
+    files=$((files + 1))
+    if [ "$files" = 1 ]; then file=$1; else text=$1; fi
+}
+
+# After an operand, what begins with a dash can be another.
+can_be_operand() { [ "$files" -gt 0 ] && [ "$files" -lt "$most" ]; }
+
+# Sets `catalogue`, the operands, and in `files` how many they are.
 read_arguments() {
-    catalogue='' file='' files=0
+    catalogue='' file='' text='' files=0
     while [ $# -gt 0 ]; do
         case $1 in
             --help) help; exit 0 ;;
             --catalogue) [ $# -gt 1 ] || wrong '--catalogue needs a file'; catalogue=$2; shift ;;
             --) shift; break ;;
-            -?*) wrong "unknown option $1" ;;
-            *) file=$1 files=$((files + 1)) ;;
+            -?*) can_be_operand || wrong "unknown option $1"; operand "$1" ;;
+            *) operand "$1" ;;
         esac
         shift
     done
-    for one in "$@"; do file=$one files=$((files + 1)); done
-    [ "$files" -le 1 ] || wrong "more than one file of $kind"
+    for one in "$@"; do operand "$one"; done
+    [ "$files" -le "$most" ] || wrong "more than $operands"
 }
 
 # ---- Building the program
