@@ -1,0 +1,7 @@
+-- The lines of a program's input, one a turn. A reader's files are `Promise`, which says what a turn comes to, and what a program does then that answers
+-- each line by itself; and `Theorems`, which says that such a program writes what is written for the lines of its input, one under another. `One` shows
+-- that each promise allows one result, and `Laws` has what the proofs need.
+pub mod Promise
+pub mod Laws
+pub mod One
+pub mod Theorems
