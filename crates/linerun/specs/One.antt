@@ -1,12 +1,11 @@
 -- Two results that a promise allows for one input are equal: those of a turn, and those of a program where a line has one answer.
 -- Assumes nothing.
-use Prim.Native.Nat.{ℕ, _<_}
+use Prim.Native.Nat.{ℕ}
 use mathlib.Core.Path.{_≡_, refl, sym, ap, ap₂, subst}
-use mathlib.Core.List.{List, _∷_, _++_}
+use mathlib.Core.List.{List, _++_}
 use native.Mathlib.Omega.{arith}
 use lib.ListN.{length, take}
 use Rattle.writer.specs.Promise.{put}
-use Rattle.textlines.specs.Lines.{longestRead}
 use Rattle.textlines.specs.One.{lines-one, takes-rest-one, takes-line-one, rest-or-line}
 use Rattle.filter.specs.declared.Phase.the-variants.{Reading, Midway}
 use Rattle.filter.specs.declared.Event.{Event}
@@ -15,7 +14,7 @@ use Rattle.filter.specs.One.{puts-message-one}
 use Rattle.linerun.specs.declared.Turn.{Turn}
 use Rattle.linerun.specs.declared.Turn.the-variants.{Line, Nothing}
 use Rattle.linerun.specs.Promise.{stateAt, withOutput, EndsAt, TakesNext, Advances, NextTurn, HeldOut, Answers, GoesOn, AllOut, LinesOut}
-use Rattle.linerun.specs.Laws.{turn-long}
+use Rattle.linerun.specs.Laws.{longLine, long-is}
 
 -- ---- a turn
 
@@ -48,22 +47,22 @@ next-turn-one NextTurn.ends NextTurn.ends = (refl, refl)
 
 module _ {Out : List ℕ → List ℕ → Type 0} (one : (p t u : List ℕ) → Out p t → Out p u → t ≡ u) where
   -- a line that is too long has one answer, since there is such a line
-  held-out-one : {l : List ℕ} {n : ℕ} {t u : List ℕ} → length l ≡ longestRead → HeldOut Out l n t → HeldOut Out l n u → t ≡ u
-  held-out-one {l} {n} {t} {u} e (HeldOut.short h x) (HeldOut.short k y) = one (take n l) t u x y
-  held-out-one e (HeldOut.short h x) (HeldOut.long k y) = absurd (omega arith)
-  held-out-one e (HeldOut.long h x) (HeldOut.short k y) = absurd (omega arith)
-  held-out-one {l} {n} {t} {u} e (HeldOut.long h x) (HeldOut.long k y) = let i : longestRead < length (0 ∷ l) = omega (arith, e) in one (0 ∷ l) t u (x (0 ∷ l) i) (y (0 ∷ l) i)
+  held-out-one : {l : List ℕ} {n : ℕ} {t u : List ℕ} → HeldOut Out l n t → HeldOut Out l n u → t ≡ u
+  held-out-one {l} {n} {t} {u} (HeldOut.short h x) (HeldOut.short k y) = one (take n l) t u x y
+  held-out-one (HeldOut.short h x) (HeldOut.long k y) = absurd (omega arith)
+  held-out-one (HeldOut.long h x) (HeldOut.short k y) = absurd (omega arith)
+  held-out-one {t = t} {u} (HeldOut.long h x) (HeldOut.long k y) = one longLine t u (x longLine long-is) (y longLine long-is)
 
-  pub answers-one : {unread unwritten : List ℕ} {l o : List ℕ} {r : Turn} {p q : List ℕ} {s v : State} → length l ≡ longestRead → Answers Out unread unwritten l o r p s → Answers Out unread unwritten l o r q v → (p ≡ q) × (s ≡ v)
-  answers-one {o = o} e (Answers.answer {s = s} x) (Answers.answer y) = let d = held-out-one e x y in (ap (put o 0) d, ap (λ (t : List ℕ). withOutput s (length t)) d)
-  answers-one e Answers.no-answer Answers.no-answer = (refl, refl)
-  answers-one e (Answers.cannot-read x) (Answers.cannot-read y) = puts-message-one x y
-  answers-one e (Answers.cannot-write x) (Answers.cannot-write y) = puts-message-one x y
+  pub answers-one : {unread unwritten : List ℕ} {l o : List ℕ} {r : Turn} {p q : List ℕ} {s v : State} → Answers Out unread unwritten l o r p s → Answers Out unread unwritten l o r q v → (p ≡ q) × (s ≡ v)
+  answers-one {o = o} (Answers.answer {s = s} x) (Answers.answer y) = let d = held-out-one x y in (ap (put o 0) d, ap (λ (t : List ℕ). withOutput s (length t)) d)
+  answers-one Answers.no-answer Answers.no-answer = (refl, refl)
+  answers-one (Answers.cannot-read x) (Answers.cannot-read y) = puts-message-one x y
+  answers-one (Answers.cannot-write x) (Answers.cannot-write y) = puts-message-one x y
 
-  pub goes-on-one : {unread unwritten : List ℕ} {b l o : List ℕ} {s : State} {e : Event} {k m p q : List ℕ} {r t : State} → length l ≡ longestRead → GoesOn Out unread unwritten b l o s e k p r → GoesOn Out unread unwritten b l o s e m q t → (k ≡ m) × (p ≡ q) × (r ≡ t)
-  goes-on-one {unread} {unwritten} {o = o} {m = m} {q = q} {t = t} i (GoesOn.goes-on {r = c} x v) (GoesOn.goes-on y w) =
+  pub goes-on-one : {unread unwritten : List ℕ} {b l o : List ℕ} {s : State} {e : Event} {k m p q : List ℕ} {r t : State} → GoesOn Out unread unwritten b l o s e k p r → GoesOn Out unread unwritten b l o s e m q t → (k ≡ m) × (p ≡ q) × (r ≡ t)
+  goes-on-one {unread} {unwritten} {o = o} {m = m} {q = q} {t = t} (GoesOn.goes-on {r = c} x v) (GoesOn.goes-on y w) =
       let (d, f) = next-turn-one x y in
-      let (g, h) = answers-one (turn-long i x) v (subst (λ (a : List ℕ). Answers Out unread unwritten a o c q t) (sym d) (subst (λ (a : Turn). Answers Out unread unwritten m o a q t) (sym f) w)) in
+      let (g, h) = answers-one v (subst (λ (a : List ℕ). Answers Out unread unwritten a o c q t) (sym d) (subst (λ (a : Turn). Answers Out unread unwritten m o a q t) (sym f) w)) in
       (d, g, h)
 
   all-out-one : {ls : List (List ℕ)} {t u : List ℕ} → AllOut Out ls t → AllOut Out ls u → t ≡ u
