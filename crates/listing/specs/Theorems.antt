@@ -5,7 +5,7 @@
 -- (`any-reads`). Where the catalogue is refused, the header and its line are the listing (`refused-lists`).
 -- That a catalogue and an input have one listing, and that each promise allows one result, is in `One`.
 -- Assumes nothing.
-use Prim.Native.Nat.{ℕ, _+_, _≤_, _<_}
+use Prim.Native.Nat.{ℕ, _+_, _≤_}
 use mathlib.Core.Path.{_≡_, refl, sym, _∙_, ap, ap₂, subst}
 use mathlib.Core.List.{List, [], _∷_, _++_, append-assoc, append-nil}
 use native.Mathlib.Omega.{arith}
@@ -22,13 +22,12 @@ use Rattle.catalogue.specs.Theorems.{named-with}
 use Rattle.writer.specs.Promise.{put}
 use Rattle.writer.specs.Laws.{put-none, put-then, length-put}
 use Rattle.bytesearch.specs.Promise.{Without}
-use Rattle.bytesearch.specs.Laws.{without-both}
 use Rattle.whole.specs.Text.{newline}
-use Rattle.textlines.specs.Lines.{Lines, joined}
+use Rattle.textlines.specs.Lines.{joined}
 use Rattle.textlines.specs.Laws.{after-rest, after-line}
 use Rattle.textlines.specs.Promise as L
 use Rattle.textlines.specs.Promise.{TakesRest, TakesLine}
-use Rattle.textlines.specs.Theorems.{holds-none, holds-more, holds-some}
+use Rattle.textlines.specs.Theorems.{Cuts, Last, cuts-join, cuts-lines, holds-none, holds-more, holds-some}
 use Rattle.entry.specs.Entry.{longestEntry}
 use Rattle.entry.specs.Promise.{Naming, LineAnswer}
 use Rattle.linetext.specs.Line.{longestLine}
@@ -39,36 +38,6 @@ use Rattle.listing.specs.One.{listing-one}
 use Rattle.listing.specs.Promise.{HeldAnswer, HeldLine, LastLine, BlockState, blockState, NextLine, Lists}
 use Rattle.listing.specs.Laws.{all-also}
 use Rattle.listing.specs.Lines.{Listed, listed, AllListed, Listing, listing, refused}
-
--- ---- the lines that end in the bytes s, where p was unfinished before them, and what is unfinished after them
-
-pub data Cuts : List ℕ → List ℕ → List (List ℕ) → List ℕ → Type 0 where
-  rest : {p q : List ℕ} → Without newline q → Cuts p q [] (p ++ q)
-  line : {p q s : List ℕ} {ls : List (List ℕ)} {r : List ℕ} → Without newline q → Cuts [] s ls r → Cuts p (q ++ (newline ∷ s)) ((p ++ q) ∷ ls) r
-
-cuts-first : {p q t : List ℕ} {ms : List (List ℕ)} {r : List ℕ} (i : List ℕ) → i ≡ p ++ q → Without newline q → Cuts i t ms r → Cuts p (q ++ t) ms r
-cuts-first {p} {q} i e w (Cuts.rest {q = t} v) = subst (Cuts p (q ++ t) []) (sym (ap (λ (x : List ℕ). x ++ t) e ∙ append-assoc p q t)) (Cuts.rest (without-both w v))
-cuts-first {p} {q} {r = r} i e w (Cuts.line {q = t} {s} {ls} v c) =
-    subst (λ (x : List ℕ). Cuts p x ((i ++ t) ∷ ls) r) (append-assoc q t (newline ∷ s))
-    (subst (λ (x : List ℕ). Cuts p ((q ++ t) ++ (newline ∷ s)) (x ∷ ls) r) (sym (ap (λ (x : List ℕ). x ++ t) e ∙ append-assoc p q t)) (Cuts.line (without-both w v) c))
-
--- bytes that come in two parts are cut as if they came at once
-pub cuts-join : {p s t : List ℕ} {ls ms : List (List ℕ)} {r u : List ℕ} → Cuts p s ls r → Cuts r t ms u → Cuts p (s ++ t) (ls ++ ms) u
-cuts-join (Cuts.rest w) d = cuts-first _ refl w d
-cuts-join {p} {t = t} {ms = ms} {u = u} (Cuts.line {q} {s} {ls} w c) d = subst (λ (x : List ℕ). Cuts p x ((p ++ q) ∷ (ls ++ ms)) u) (sym (append-assoc q (newline ∷ s) t)) (Cuts.line w (cuts-join c d))
-
--- what is unfinished at the end of the input is a line, unless there is nothing of it
-pub data Last : List ℕ → List (List ℕ) → Type 0 where
-  none : Last [] []
-  some : {r : List ℕ} → 0 < length r → Last r (r ∷ [])
-
-last-lines : {r : List ℕ} {ms : List (List ℕ)} → Without newline r → Last r ms → Lines r ms
-last-lines w Last.none = Lines.none
-last-lines w (Last.some h) = Lines.last w h
-
-pub cuts-lines : {p s : List ℕ} {ls : List (List ℕ)} {r : List ℕ} {ms : List (List ℕ)} → Without newline p → Cuts p s ls r → Last r ms → Lines (p ++ s) (ls ++ ms)
-cuts-lines w (Cuts.rest v) m = last-lines (without-both w v) m
-cuts-lines {p} {ms = ms} w (Cuts.line {q} {s} {ls} v c) m = subst (λ (x : List ℕ). Lines x ((p ++ q) ∷ (ls ++ ms))) (append-assoc p q (newline ∷ s)) (Lines.line (without-both w v) (cuts-lines Without.none c m))
 
 -- ---- what a call of `list_block` comes to: `taken` are the bytes that it took
 
