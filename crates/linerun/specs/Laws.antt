@@ -1,4 +1,4 @@
--- What the proofs need.
+-- What the proofs need, here and in a program that answers each line by itself.
 -- Assumes nothing.
 use Prim.Native.Nat.{ℕ, zero, suc, _≤_, _<_}
 use mathlib.Core.Path.{_≡_, refl, sym, _∙_, ap, subst}
@@ -40,6 +40,7 @@ module _ {b x l : List ℕ} {from n h : ℕ} (e : x ≡ take n b) where
   advances-none i q = subst (λ (y : State). Advances b l from n h l (Nothing y)) (sym q) (Advances.none-left (subst (λ (y : List ℕ). length y ≤ from) e i))
 
 -- ---- by what has happened, where the answer of the read was handed on as g
+
 pub turns : {b l l′ : List ℕ} {s : State} {r : Turn} {x y : Event} (w : Bool) {g z : ℤ} → g ≡ z → x ≡ eventOf s w g → x ≡ y → NextTurn b l s y l′ r → NextTurn b l s (eventOf s w z) l′ r
 turns {b} {l} {l′} {s} {r} w d e f t = subst (λ (v : Event). NextTurn b l s v l′ r) (sym f ∙ e ∙ ap (eventOf s w) d) t
 

@@ -1,4 +1,4 @@
--- What is promised of a turn: which line has ended, and where the program is then; and what a program does then that answers each line by itself.
+-- What is promised of a turn: which line has ended, and where the program is then; and what a program that answers each line by itself does then.
 -- Assumes nothing.
 use Prim.Native.Nat.{ℕ, zero, suc, _≤_, _<_}
 use mathlib.Core.List.{List, [], _∷_, _++_}

@@ -1,5 +1,5 @@
--- THE THEOREMS ON A PROGRAM THAT ANSWERS EACH LINE BY ITSELF. One that does what its turns say, and whose reads and writes do not fail, writes what is to
--- be written for the lines of its input, one under another, whatever parts the input comes in (`run-answers`); so two runs on one input write the same,
+-- THE THEOREMS ON A PROGRAM THAT ANSWERS EACH LINE BY ITSELF. One that does what its turns say, and whose reads and writes do not fail, writes the
+-- answers to the lines of its input, one under another, whatever parts the input comes in (`run-answers`); so two runs on one input write the same,
 -- where a line has one answer (`any-run`). What stood in the output before the first turn is written before it (`run-after`); a program that starts with
 -- the end of its output reads nothing (`run-closes`). A turn within a block goes further in it (`goes-further`): no block holds a program for ever.
 -- Assumes nothing.
