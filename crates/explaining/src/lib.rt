@@ -1,0 +1,3 @@
+// An answer explained: a paragraph of English, written into a lent buffer.
+
+mod fill;
