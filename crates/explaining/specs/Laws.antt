@@ -2,15 +2,17 @@
 -- Assumes nothing.
 use Prim.Native.Nat.{ℕ, zero, suc, _+_, _≤_, _<_, _^_}
 use mathlib.Core.Path.{_≡_, refl, sym, _∙_, ap, ap₂, subst}
-use mathlib.Core.Bool.{Bool, true, false, cond}
+use mathlib.Core.Bool.{Bool, true, false, cond, _||_}
 use mathlib.Core.List.{List, [], _∷_, _++_, append-assoc, append-nil}
 use mathlib.Core.Logic.{⊎-elim}
 use native.Mathlib.Omega.{arith}
 use lib.ListN.{length, getD, drop, set, length-append}
-use lib.Dec.{leb, eqb}
+use lib.Dec.{leb, ltb, eqb}
 use lib.Seq.{drop-cons, drop-drop, drop-nil}
 use lib.IntN.{ℤ, pos, natAbs}
-use borrow.Author.Tests.{eqb-true, le-leb, lt-leb}
+use borrow.Author.Tests.{eqb-true, le-leb, lt-leb, le-ltb, lt-ltb}
+use Rattle.whole.specs.Text.{bytes, newline}
+use Rattle.expected.specs.declared.Expected.{Expected}
 use Rattle.whole.specs.Tests.{true-or-false}
 use Rattle.whole.specs.Promise.{isNegative}
 use Rattle.refusals.specs.declared.Refusal.{Refusal}
@@ -20,6 +22,7 @@ use Rattle.writer.specs.declared.buffer.Copied.{Copied}
 use Rattle.writer.specs.declared.Written.{Written}
 use Rattle.linetext.specs.Laws.{Text, text-as, text-then, put-text}
 use Rattle.explaining.specs.Patterns.{shownByte, shown, numberMark, nameMark, textMark, Filled, end, number, no-number, the-name, the-text, itself, costOf, cost}
+use Rattle.explaining.specs.Wording.{digitWords, further, choices, spaces, picture}
 
 -- ---- a text with room for it
 
@@ -231,3 +234,110 @@ module _ {name text p : List ℕ} {ns : List ℤ} {b₀ : List ℕ} {at : ℕ} {
     where
       all : Filled name text (drop i p) (drop used ns) []
       all = subst (λ (q : List ℕ). Filled name text q (drop used ns) []) (sym (drop-past i p h)) Filled.end
+
+-- ---- known texts one after another
+
+abbrev pub Is : List ℕ → List ℕ → Type 0
+Is t u = u ≡ t
+
+pub is-put : {b : List ℕ} {at : ℕ} {t b′ : List ℕ} {i : ℕ} (m : ℕ) → length t ≤ m → PutText b at t b′ i → Text (Is t) m b at b′ i
+is-put {t = t} m h s = put-text {P = Is t} refl h s
+
+pub is-then : {b : List ℕ} {at : ℕ} {b₁ b₂ : List ℕ} {i j m k : ℕ} {x y : List ℕ} → Text (Is x) m b at b₁ i → Text (Is y) k b₁ i b₂ j → at + m + k ≤ length b → Text (Is (x ++ y)) (m + k) b at b₂ j
+is-then {x = x} {y} s t h = text-then s t (λ u v p q. ap₂ (λ (a c : List ℕ). a ++ c) p q) h
+
+pub is-as : {b : List ℕ} {at : ℕ} {b′ : List ℕ} {i m n : ℕ} {x y : List ℕ} → x ≡ y → m ≤ n → Text (Is x) m b at b′ i → Text (Is y) n b at b′ i
+is-as e h t = text-as t (λ u p. p ∙ e) h
+
+pub is-nothing : (b : List ℕ) (at m : ℕ) → Text (Is []) m b at b at
+is-nothing b at m = is-put {t = []} m (omega arith) (record { is = sym (put-none b at); offset = omega arith })
+
+-- ---- the words of a choice
+
+module _ {n : ℕ} where
+  pub words-none : n ≡ 0 → [] ≡ digitWords n
+  unfolding digitWords
+  words-none e = sym (rw e refl)
+
+  pub words-one : n ≡ 1 → bytes "the digit 0" ≡ digitWords n
+  unfolding digitWords
+  words-one e = sym (rw e refl)
+
+  pub words-some : ¬ (n ≡ 0) → ¬ (n ≡ 1) → n < 10 → bytes "a digit 0 to " ++ ((47 + n) ∷ []) ≡ digitWords n
+  unfolding digitWords
+  words-some h k l = sym (rw (other n 0 h, other n 1 k, lt-ltb n 10 l) refl)
+
+  pub words-any : ¬ (n ≡ 0) → ¬ (n ≡ 1) → 10 ≤ n → bytes "a digit" ≡ digitWords n
+  unfolding digitWords
+  words-any h k l = sym (rw (other n 0 h, other n 1 k, le-ltb n 10 l) refl)
+
+-- ---- spaces
+
+pub spaces-long : (n : ℕ) → length (spaces n) ≡ n
+unfolding spaces
+spaces-long zero = refl
+spaces-long (suc n) = ap suc (spaces-long n)
+
+spaces-at : (n i : ℕ) → i < n → getD (spaces n) i 0 ≡ 32
+unfolding spaces
+spaces-at zero i h = absurd (omega arith)
+spaces-at (suc n) zero h = refl
+spaces-at (suc n) (suc i) h = spaces-at n i (omega arith)
+
+module _ (n : ℕ) {b₀ : List ℕ} {at : ℕ} {b : List ℕ} {i : ℕ} (h : at + n ≤ length b₀) (c : Copying b₀ at (spaces n) b i) where
+  fits-spaces : at + length (spaces n) ≤ length b₀
+  fits-spaces = omega (arith, spaces-long n)
+
+  pub spacing-on : i < n → Copying b₀ at (spaces n) (set b (at + i) 32) (i + 1)
+  spacing-on l = subst (λ (y : ℕ). Copying b₀ at (spaces n) (set b (at + i) y) (i + 1)) (spaces-at n i l) (copying-on fits-spaces c (omega (arith, spaces-long n)))
+
+  pub spacing-done : n ≤ i → PutText b₀ at (spaces n) b (at + n)
+  spacing-done l = subst (λ (k : ℕ). PutText b₀ at (spaces n) b (at + k)) (spaces-long n) (copying-done fits-spaces c (omega (arith, spaces-long n)))
+
+-- ---- a further choice, and all of them
+
+module _ (named : Bool) {holds : Bool} (word : List ℕ) where
+  pub further-or : holds ≡ true → named ≡ true → bytes " or " ++ word ≡ further named holds word
+  further-or h k = sym (rw (h, k) refl)
+
+  pub further-first : holds ≡ true → named ≡ false → word ≡ further named holds word
+  further-first h k = sym (rw (h, k) refl)
+
+  pub further-none : holds ≡ false → [] ≡ further named holds word
+  further-none h = sym (rw h refl)
+
+pub choices-put : (e : Expected) {s t : Bool} {b : List ℕ} {at : ℕ} {b₁ b₂ b₃ b₄ : List ℕ} {i₁ i₂ i₃ i₄ : ℕ} → at + 39 ≤ length b → s ≡ ltb 0 (e .digits) || e .dash → t ≡ s || e .plus
+    → Text (Is (digitWords (e .digits))) 14 b at b₁ i₁ → Text (Is (further (ltb 0 (e .digits)) (e .dash) (bytes "\"-\""))) 7 b₁ i₁ b₂ i₂
+    → Text (Is (further s (e .plus) (bytes "\"+\""))) 7 b₂ i₂ b₃ i₃ → Text (Is (further t (e .ends) (bytes "the end"))) 11 b₃ i₃ b₄ i₄ → Text (Is (choices e)) 39 b at b₄ i₄
+unfolding choices
+choices-put e {s} {t} h p q t₁ t₂ t₃ t₄ = is-as (joined (digitWords (e .digits)) _ _ _ ∙ same) (omega arith) (is-then (is-then (is-then t₁ t₂ (omega arith)) t₃ (omega arith)) t₄ (omega arith))
+  where
+    joined : (w x y z : List ℕ) → ((w ++ x) ++ y) ++ z ≡ w ++ (x ++ (y ++ z))
+    joined w x y z = simp append-assoc
+
+    q′ : t ≡ (ltb 0 (e .digits) || e .dash) || e .plus
+    q′ = q ∙ ap (λ (g : Bool). g || e .plus) p
+
+    same : digitWords (e .digits) ++ (further (ltb 0 (e .digits)) (e .dash) (bytes "\"-\"") ++ (further s (e .plus) (bytes "\"+\"") ++ further t (e .ends) (bytes "the end"))) ≡ choices e
+    same =
+        ap₂ (λ (f g : Bool). digitWords (e .digits) ++ (further (ltb 0 (e .digits)) (e .dash) (bytes "\"-\"") ++ (further f (e .plus) (bytes "\"+\"") ++ further g (e .ends) (bytes "the end"))))
+        p q′
+
+-- ---- the lines of a picture
+
+pub picture-put : (text : List ℕ) (place : ℕ) {b : List ℕ} {at : ℕ} {b₁ b₂ b₃ b₄ b₅ : List ℕ} {i₁ i₂ i₃ i₄ i₅ : ℕ} → at + (11 + length text + place) ≤ length b
+    → PutText b at (spaces 4) b₁ i₁ → PutText b₁ i₁ (shown text) b₂ i₂ → PutText b₂ i₂ (newline ∷ []) b₃ i₃ → PutText b₃ i₃ (spaces (4 + place)) b₄ i₄ → PutText b₄ i₄ (bytes "^\n") b₅ i₅
+    → Text (Is (picture text place)) (11 + length text + place) b at b₅ i₅
+unfolding picture bytes
+picture-put text place h s₁ s₂ s₃ s₄ s₅ =
+    is-as (joined (spaces 4) (shown text) (newline ∷ []) (spaces (4 + place)) (bytes "^\n")) (omega arith)
+    (is-then
+    (is-then
+    (is-then (is-then (is-put 4 (omega (arith, spaces-long 4)) s₁) (is-put (length text) (omega (arith, shown-long text)) s₂) (omega arith)) (is-put 1 (omega arith) s₃) (omega arith))
+    (is-put (4 + place) (omega (arith, spaces-long (4 + place))) s₄)
+    (omega arith))
+    (is-put 2 (omega arith) s₅)
+    (omega arith))
+  where
+    joined : (v w x y z : List ℕ) → (((v ++ w) ++ x) ++ y) ++ z ≡ v ++ (w ++ (x ++ (y ++ z)))
+    joined v w x y z = simp append-assoc

@@ -1,6 +1,7 @@
 // A pattern filled with numbers, a name and a text. Each function writes from `at` on, where it has room, and answers the offset after what it wrote.
 
 ghost use mathlib.Core.Path.{_≡_};
+ghost use mathlib.Core.List.{[], _∷_};
 ghost use Prim.Native.Nat.{_+_, _≤_, _<_};
 ghost use lib.ListN.{length, drop};
 ghost use Rattle.writer.specs.Laws.{PutText};
@@ -10,6 +11,14 @@ ghost use Rattle.explaining.specs.Laws.{Decimals, Piece, usedAfter};
 use writer::Written;
 use writer::buffer;
 use writer::buffer::Copied;
+
+pub fn put_byte(out: &mut [u8], at: usize, b: u8) -> usize
+    requires { ⌜ at < length (now out) ⌝ }
+    ensures { λ r. ⌜ PutText (now (out .entry)) at (b ∷ []) (now (out .exit)) r ⌝ }
+{
+    out[at] = b;
+    at + 1
+}
 
 // Bytes as they stand.
 pub fn put_text(out: &mut [u8], at: usize, text: &[u8]) -> usize

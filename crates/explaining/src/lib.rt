@@ -1,3 +1,5 @@
 // An answer explained: a paragraph of English, written into a lent buffer.
 
+mod choices;
 mod fill;
+mod picture;
