@@ -11,6 +11,11 @@ use lib.Dec.{leb, ltb, eqb}
 use lib.Seq.{drop-cons, drop-drop, drop-nil}
 use lib.IntN.{ℤ, pos, natAbs}
 use borrow.Author.Tests.{eqb-true, le-leb, lt-leb, le-ltb, lt-ltb}
+use borrow.Author.Needs.{sfits-of}
+use mir.Syntax.{w64}
+use mir.Val.{hbits, toZ, ofZ}
+use mir.Facts.{toZ-ofZ}
+use lib.Signed.{mag}
 use Rattle.whole.specs.Text.{bytes, newline}
 use Rattle.expected.specs.declared.Expected.{Expected}
 use Rattle.whole.specs.Tests.{true-or-false}
@@ -22,7 +27,10 @@ use Rattle.writer.specs.declared.buffer.Copied.{Copied}
 use Rattle.writer.specs.declared.Written.{Written}
 use Rattle.linetext.specs.Laws.{Text, text-as, text-then, put-text}
 use Rattle.explaining.specs.Patterns.{shownByte, shown, numberMark, nameMark, textMark, Filled, end, number, no-number, the-name, the-text, itself, costOf, cost}
-use Rattle.explaining.specs.Wording.{digitWords, further, choices, spaces, picture}
+use Rattle.reasons.specs.declared.Reason.{Reason}
+use Rattle.reasons.specs.declared.Reason.the-variants.{Faulty}
+use Rattle.explaining.specs.Wording.{digitWords, further, choices, spaces, picture, faultPattern, faultEnd, sentence, numbersOf, follows, Says, says}
+use Rattle.explaining.specs.Promise.{longestParagraph, Room}
 
 -- ---- a text with room for it
 
@@ -341,3 +349,65 @@ picture-put text place h s₁ s₂ s₃ s₄ s₅ =
   where
     joined : (v w x y z : List ℕ) → (((v ++ w) ++ x) ++ y) ++ z ≡ v ++ (w ++ (x ++ (y ++ z)))
     joined v w x y z = simp append-assoc
+
+-- ---- a sentence within its bound
+
+either-cost : {n n′ m m′ : ℕ} (b : ℕ) → n ≤ n′ → m ≤ m′ → costOf n m b ≤ costOf n′ m′ b
+either-cost {n} {n′} {m} {m′} b h k = by (eqb b numberMark) (eqb b nameMark) (eqb b textMark)
+  where
+    by : (s t u : Bool) → cond s 21 (cond t n (cond u m 1)) ≤ cond s 21 (cond t n′ (cond u m′ 1))
+    by true t u = omega arith
+    by false true u = h
+    by false false true = k
+    by false false false = omega arith
+
+-- the cost grows with the lengths of the name and of the text
+cost-grows : {n n′ m m′ : ℕ} (p : List ℕ) → n ≤ n′ → m ≤ m′ → cost n m p ≤ cost n′ m′ p
+unfolding cost
+cost-grows [] h k = omega arith
+cost-grows (b ∷ p) h k = omega (arith, either-cost b h k, cost-grows p h k)
+
+pub cost-within : (p : List ℕ) {b : List ℕ} {at : ℕ} {name text : List ℕ} → Room b at name text → cost 512 512 p ≤ 2048 → cost (length name) (length text) p ≤ 2048
+cost-within p r h = omega (arith, cost-grows p (r .name-short) (r .text-short))
+
+-- ---- a reason with one sentence
+
+pub says-alone : {name text : List ℕ} (reason : Reason) {b : List ℕ} {at : ℕ} {b′ : List ℕ} {i : ℕ} → follows text reason ≡ []
+    → Text (Filled name text (sentence reason) (numbersOf reason)) 2048 b at b′ i → Text (Says name text reason) longestParagraph b at b′ i
+says-alone {name} {text} reason e t = text-as t by (omega arith)
+  where
+    by : (u : List ℕ) → Filled name text (sentence reason) (numbersOf reason) u → Says name text reason u
+    by u f = subst (Says name text reason) (ap (λ (v : List ℕ). u ++ v) e ∙ append-nil u) (says f)
+
+pub numbers-as : {name text p : List ℕ} {ns ms : List ℤ} {m : ℕ} {b : List ℕ} {at : ℕ} {b′ : List ℕ} {i : ℕ} → ns ≡ ms → Text (Filled name text p ns) m b at b′ i → Text (Filled name text p ms) m b at b′ i
+numbers-as {name} {text} {p} {m = m} {b} {at} {b′} {i} e = subst (λ (xs : List ℤ). Text (Filled name text p xs) m b at b′ i) e
+
+pub says-as : {name text : List ℕ} {r s : Reason} {m : ℕ} {b : List ℕ} {at : ℕ} {b′ : List ℕ} {i : ℕ} → r ≡ s → Text (Says name text s) m b at b′ i → Text (Says name text r) m b at b′ i
+says-as {name} {text} {m = m} {b} {at} {b′} {i} e = subst (λ (x : Reason). Text (Says name text x) m b at b′ i) (sym e)
+
+-- ---- a faulty text
+
+module _ (text : List ℕ) {n : ℕ} (place : ℕ) (e : Expected) where
+  pub end-month : n ≡ 3 → bytes ".\n" ++ picture text place ≡ faultEnd text n place e
+  unfolding faultEnd
+  end-month h = sym (rw h refl)
+
+  pub end-other : ¬ (n ≡ 3) → (bytes "; there could stand " ++ choices e) ++ (bytes ".\n" ++ picture text place) ≡ faultEnd text n place e
+  unfolding faultEnd
+  end-other h = sym (rw (other n 3 h) refl)
+
+pub faulty-put : {name text : List ℕ} (why : Refusal) (inYear : Bool) (place : ℕ) (e : Expected) {b : List ℕ} {at : ℕ} {b₁ b₂ : List ℕ} {i j : ℕ} → at + longestParagraph ≤ length b
+    → Text (Filled name text (faultPattern (why .number) inYear) (pos place ∷ why .value ∷ [])) 2048 b at b₁ i → Text (Is (faultEnd text (why .number) place e)) 1097 b₁ i b₂ j
+    → Text (Says name text (Faulty why inYear place e)) longestParagraph b at b₂ j
+faulty-put {name} {text} why inYear place e h t s = text-as (text-then t s both (omega arith)) (λ u p. p) (omega arith)
+  where
+    both : (u v : List ℕ) → Filled name text (faultPattern (why .number) inYear) (pos place ∷ why .value ∷ []) u → v ≡ faultEnd text (why .number) place e → Says name text (Faulty why inYear place e) (u ++ v)
+    both u v f q = subst (λ (x : List ℕ). Says name text (Faulty why inYear place e) (u ++ x)) (sym q) (says f)
+
+-- ---- numbers as they are held in 64 bits
+
+pub also : {x y : ℤ} {xs ys : List ℤ} → x ≡ y → xs ≡ ys → x ∷ xs ≡ y ∷ ys
+also e f = ap₂ (λ (z : ℤ) (zs : List ℤ). z ∷ zs) e f
+
+pub held : {r x : ℤ} → mag r < 2 ^ hbits w64 → r ≡ x → toZ w64 (ofZ w64 r) ≡ x
+held h e = toZ-ofZ (sfits-of h) ∙ e

@@ -3,3 +3,4 @@
 mod choices;
 mod fill;
 mod picture;
+mod sentences;

@@ -1,0 +1,50 @@
+-- `explaining::sentences::put_range` meets its promise.
+-- Assumes nothing.
+use Rattle.whole.specs.Text.{bytes}
+use Rattle.explaining.specs.Patterns.{cost}
+use lib.Dec.{lit≤}
+use Rattle.explaining.specs.Wording.{rangePattern}
+use borrow.Author.Needs.{needs}
+use Rattle.explaining.proofs.sentences.put_range.Statement.{statement}
+use Rattle.explaining.proofs.sentences.put_range.Tie as tie
+
+slice-aggregate-say : tie.Need-slice-aggregate-say
+slice-aggregate-say c = search needs
+
+say-requires : tie.Need-say-requires
+unfolding cost
+say-requires c κs = (c .before .before .before .before .before .before .pre, lit≤ tt)
+
+same-length : tie.Need-same-length
+same-length c = search needs
+
+returns : tie.Need-returns
+unfolding rangePattern bytes
+returns c = rw (c .before .before .before .before .before .if1 .taken) (c .before .before .say .ensures)
+
+slice-aggregate-say-2 : tie.Need-slice-aggregate-say-2
+slice-aggregate-say-2 c = search needs
+
+say-requires-2 : tie.Need-say-requires-2
+unfolding cost
+say-requires-2 c κs = (c .before .before .before .before .before .before .pre, lit≤ tt)
+
+same-length-2 : tie.Need-same-length-2
+same-length-2 c = search needs
+
+returns-2 : tie.Need-returns-2
+unfolding rangePattern bytes
+returns-2 c = rw (c .before .before .before .before .before .if1 .left) (c .before .before .say2 .ensures)
+
+pub put-range-spec : {M : Type 1} → statement M
+put-range-spec =
+    tie.close
+    (tie.spec
+    slice-aggregate-say
+    say-requires
+    same-length
+    returns
+    slice-aggregate-say-2
+    say-requires-2
+    same-length-2
+    returns-2)
