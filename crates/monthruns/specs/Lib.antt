@@ -1,1 +1,6 @@
--- The days of a month as runs.
+-- The days of a month as runs. The reader's file is `Promise`; `One` shows that the promise allows one result.
+-- `Natural` has what the private functions say, and `Laws` goes from there to the promise.
+pub mod Promise
+pub mod One
+pub mod Natural
+pub mod Laws

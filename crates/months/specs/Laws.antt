@@ -173,12 +173,12 @@ module _ (c : Calendar) {z : ℤ} {m : ℕ} (s : MonthSpan) (p : SpanOf c z m s)
   gregorian-is : s .gregorian ≡ gregorianMonth (p .y) m
   gregorian-is = ap (λ (s : MonthSpan). s .gregorian) (p .span)
 
-  month-days : Stretch (labels c) (OfMonth z m) dayBias (s .first) (s .past)
+  pub month-days : Stretch (labels c) (OfMonth z m) dayBias (s .first) (s .past)
   month-days = subst (λ (z : ℤ). Stretch (labels c) (OfMonth z m) dayBias (s .first) (s .past)) (p .year-is)
       (subst₂ (λ (a b : ℕ). Stretch (labels c) (OfMonth (year (p .y)) m) dayBias a b) (sym first-is) (sym past-is)
       (month-stretch (p .runs) (p .y) (p .year-biased) m (p .is-month .0) (p .is-month .1)))
 
-  month-row : {A : Type 0} (refused : Refusal → A) {Below : A → Type 0} {a : A} → Below a → OfAMonth c m refused Below a
+  pub month-row : {A : Type 0} (refused : Refusal → A) {Below : A → Type 0} {a : A} → Below a → OfAMonth c m refused Below a
   month-row refused b = passes (p .runs .accepted) (passes (p .is-month) b)
 
   pub span-ordered : s .first ≤ s .past
@@ -213,7 +213,7 @@ module _ (c : Calendar) {z : ℤ} {m : ℕ} (s : MonthSpan) (p : SpanOf c z m s)
     }
 
     -- a month with a Julian day begins in that reckoning
-    begins-old : k < s .switch → s .first ≡ julianMonth (p .y) m
+    pub begins-old : k < s .switch → s .first ≡ julianMonth (p .y) m
     begins-old h = first-is ∙ first-julian (s .switch) (julianMonth (p .y) m) (gregorianMonth (p .y) m) (below (julianMonth (p .y) m) (old-in h .0))
       where
         below : (j : ℕ) → j ≤ k → j < s .switch

@@ -1,4 +1,4 @@
--- What the private functions say, of days and years that are biased as naturals.
+-- What `span_of` and the private function say, of days and years that are biased as naturals.
 use mathlib.Core.Path.{_≡_}
 use mathlib.Core.Bool.{cond}
 use Prim.Native.Nat.{ℕ, _+_, _-_, _≤_, _<_, _^_}

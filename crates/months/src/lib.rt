@@ -1,6 +1,6 @@
 // The years and months of a calendar: how many days they have, and the place of a day in its month. Days outside 32 bits count too.
 // The days of a month are consecutive: Julian days before the switch, and Gregorian days from the switch on.
-// For users.
+// For users: all but `span_of`, which is for the crates above.
 
 ghost use mathlib.Core.Path.{_≡_};
 ghost use Rattle.months.specs.Promise.{YearLengthOf, Len, FirstDayOf, LastDayOf, Contains, DayOrdinalOf, NthDay, NthDate};
@@ -133,7 +133,8 @@ pub fn nth_date(calendar: Calendar, year: i32, month: u32, k: u32) -> Dated
 
 // ---- The run of days of a month
 
-fn span_of(calendar: Calendar, year: i32, month: u32) -> Spanned
+// Its first day and the first day past it, by numbers of days.
+pub fn span_of(calendar: Calendar, year: i32, month: u32) -> Spanned
     ensures { λ s. ⌜ Spans calendar year month s ⌝ }
 {
     match switch_of(calendar) {
