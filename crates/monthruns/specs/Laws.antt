@@ -2,7 +2,7 @@
 -- Assumes nothing.
 use mathlib.Core.Path.{_≡_, sym, _∙_, ap, subst, subst₂}
 use mathlib.Core.Logic.{inl, inr, ⊎-elim}
-use Prim.Native.Nat.{ℕ, _+_, _-_, _<_, _≤_, _^_}
+use Prim.Native.Nat.{ℕ, _+_, _-_, _<_, _≤_}
 use native.Mathlib.Omega.{arith}
 use borrow.Author.Tests.{lt-ltb, le-ltb}
 use lib.IntN.{ℤ}
@@ -17,17 +17,16 @@ use Rattle.days.specs.ReckoningLabels.{julian-rises}
 use Rattle.days.specs.ClosedJulian as J
 use Rattle.days.specs.ClosedGregorian as G
 use Rattle.days.specs.ClosedNumbers.{There, number, numbered, there}
-use Rattle.days.specs.ClosedRuns.{top, julianMonth}
+use Rattle.days.specs.ClosedRuns.{julianMonth}
 use Rattle.days.specs.AcceptedCalendars.{no-switch}
 use Rattle.days.specs.ReformationTable.{there-too}
 use Rattle.calendar.specs.declared.Calendar.{Calendar}
-use Rattle.calendar.specs.Calendars.{definitionOf, labels}
+use Rattle.calendar.specs.Calendars.{labels}
 use Rattle.switches.specs.declared.MonthSpan.{MonthSpan}
 use Rattle.months.specs.One.{label-of-month}
 use Rattle.months.specs.Natural.{SpanOf, Inside}
 use Rattle.months.specs.Laws.{month-days, month-row, span-room, inside, begins-old, label-in}
 use Rattle.monthruns.specs.declared.Runs.{Runs}
-use Rattle.monthruns.specs.declared.Runs.the-variants.{Nothing, One, Two}
 use Rattle.monthruns.specs.declared.MonthDays.the-variants as MonthDays′
 use Rattle.monthruns.specs.Promise.{InRun, HasRuns, are-runs, RunsOf}
 use Rattle.monthruns.specs.Natural.{runOf, Few, AllInside, RunsIn, no-run, new-run, old-run, two-runs}
@@ -118,7 +117,7 @@ module _ (c : Calendar) {z : ℤ} {m : ℕ} (s : MonthSpan) (p : SpanOf c z m s)
                 subst (λ (j : ℕ). j + e - 1 ≤ s .switch) f (omega arith)
 
   -- ---- the runs
-  has-runs : {r : Runs} → RunsIn s r → HasRuns (labels c) z m r
+  pub has-runs : {r : Runs} → RunsIn s r → HasRuns (labels c) z m r
   has-runs (no-run h) = record {
     apart = tt;
     in-runs = λ d b. let (k, u, v, e) = borne-day b in omega arith;

@@ -1,4 +1,5 @@
 -- What the private functions say, of days that are biased as naturals.
+-- Assumes nothing.
 use Prim.Native.Nat.{ℕ, _+_, _-_, _<_, _≤_, _^_}
 use Rattle.days.specs.ClosedRuns.{top}
 use Rattle.switches.specs.declared.MonthSpan.{MonthSpan}

@@ -1,4 +1,5 @@
 -- What `runs_of` promises: the days that a month of the unbounded calendar has, as runs of days of the month.
+-- Assumes nothing.
 use mathlib.Core.Logic.{_⊎_}
 use Prim.Native.Nat.{ℕ, _+_, _<_, _≤_}
 use lib.IntN.{ℤ}

@@ -1,6 +1,5 @@
 -- `monthruns::runs_in` meets its promise.
 -- Assumes nothing.
-use Prim.Native.Nat.{_-_}
 use native.Mathlib.Omega.{arith}
 use borrow.Author.Needs.{needs}
 use Rattle.monthruns.specs.Natural.{no-run, new-run, old-run, two-runs}
