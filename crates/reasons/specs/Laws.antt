@@ -33,6 +33,9 @@ use Rattle.calendar.specs.Calendars.{timeline, labels, Accepted, IsRecordIn, Is
 use Rattle.calendar.specs.Rows.{Unless, refuses, passes}
 use Rattle.calendar.specs.Promise.{made-up, RecordOfIn, record-of, AtYmd, on-label, AtOrdinal, on-ordinal, OffYear, LastJulian, FirstGregorian, ReformRecord, reform-record, never-julian, never-gregorian}
 use Rattle.months.specs.Promise.{number, YearLengthOf}
+use Rattle.monthruns.specs.declared.Runs.{Runs}
+use Rattle.monthruns.specs.declared.MonthDays.the-variants as MonthDays′
+use Rattle.monthruns.specs.Promise.{are-runs, RunsOf}
 use Rattle.numbertext.specs.Numerals.{NoSigned, NoNumber, NoDash, TooFar}
 use Rattle.numbertext.specs.Promise.{SignedAt, SignedFrom, At}
 use Rattle.numbertext.specs.One.{signed-one}
@@ -124,6 +127,13 @@ module _ (c : Calendar) (a : Accepted c) (y : ℤ) (m d k : ℕ) (v : Month m) w
   ymd-outside (passes b (passes w (refuses n))) h i = absurd (h refl)
   ymd-outside (passes b (passes w (passes f (refuses n)))) h i = absurd (i refl)
   ymd-outside (passes b (passes w (passes f (passes g (on-label {n} e (refuses out)))))) h i = OfYmd.borne e (OnDay.outside {above = not (isNegative y)} (end-passed c a n y (year-is e) out))
+
+  pub missing-row : {r : Runs} → MissingIn (timeline c) (label y m d) → RunsOf c y m (MonthDays′.Are r) → OfYmd (timeline c) c y m d k (Reason′.Missing (refusal 4 k (pos d)) y m r)
+  missing-row n (passes b (passes w (are-runs p))) = OfYmd.missing n p
+
+  pub runs-refused : {f : Refusal} → RunsOf c y m (MonthDays′.Refused f) → ⊥
+  runs-refused (refuses n) = n a
+  runs-refused (passes b (refuses n)) = n v
 
 -- ---- The gap of a skipped label, which is at the one switch of the calendar
 

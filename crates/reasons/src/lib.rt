@@ -231,9 +231,11 @@ fn accepted(date: Date) -> Reason
 fn is_leap(style: Style, year: i32) -> bool
     ensures { λ b. ⌜ b ≡ ruleOf style year ⌝ }
 {
+    let old = inner::is_julian_leap_year(year);
+    let new = inner::is_gregorian_leap_year(year);
     match style {
-        Style::Julian => inner::is_julian_leap_year(year),
-        Style::Gregorian => inner::is_gregorian_leap_year(year),
+        Style::Julian => old,
+        Style::Gregorian => new,
     }
 }
 

@@ -1,3 +1,5 @@
+-- `reasons::accepted` meets its promise.
+-- Assumes nothing.
 use mathlib.Core.Path.{ap}
 use Rattle.reasons.specs.declared.Reason.the-variants as Reason′
 use mir.Facts.{toZ-ofZ}

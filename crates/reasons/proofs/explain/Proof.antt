@@ -1,3 +1,5 @@
+-- `reasons::explain` meets its promise.
+-- Assumes nothing.
 use mir.Facts.{toZ-ofZ}
 use Rattle.calendar.specs.Calendars.{Accepted}
 use Rattle.calendar.specs.Laws.{switch-runs, switch-made-up}

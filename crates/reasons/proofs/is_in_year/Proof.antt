@@ -1,3 +1,5 @@
+-- `reasons::is_in_year` meets its promise.
+-- Assumes nothing.
 use Rattle.reasons.specs.Laws.{no-year, some-year}
 use borrow.Author.Needs.{needs}
 use Rattle.reasons.proofs.is_in_year.Statement.{statement}

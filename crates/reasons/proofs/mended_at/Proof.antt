@@ -1,3 +1,5 @@
+-- `reasons::mended_at` meets its promise.
+-- Assumes nothing.
 use native.Mathlib.Omega.{arith}
 use Rattle.reasons.specs.Laws.{mended-ten, mended-else}
 use Rattle.reasons.proofs.mended_at.Statement.{statement}

@@ -1,3 +1,5 @@
+-- `reasons::of_fault` meets its promise.
+-- Assumes nothing.
 use Rattle.reasons.specs.Laws.{ten-first, faulty}
 use borrow.Author.Needs.{needs}
 use Rattle.reasons.proofs.of_fault.Statement.{statement}

@@ -1,3 +1,5 @@
+-- `reasons::of_ordinal` meets its promise.
+-- Assumes nothing.
 use mir.Facts.{toZ-ofZ}
 use Rattle.reasons.specs.Laws.{ordinal-date, ordinal-off, ordinal-outside}
 use borrow.Author.Needs.{needs}

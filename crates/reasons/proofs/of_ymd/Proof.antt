@@ -1,3 +1,5 @@
+-- `reasons::of_ymd` meets its promise.
+-- Assumes nothing.
 use mir.Facts.{toZ-ofZ}
 use Rattle.reasons.specs.Laws.{ymd-date, ymd-missing, ymd-skipped, ymd-outside, skipped-ymd}
 use Rattle.days.specs.DayByDay.{label}

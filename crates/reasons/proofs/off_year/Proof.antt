@@ -1,3 +1,5 @@
+-- `reasons::off_year` meets its promise.
+-- Assumes nothing.
 use mir.Facts.{toZ-ofZ}
 use Rattle.reasons.specs.Laws.{length-row, length-refused}
 use borrow.Author.Needs.{needs}

@@ -1,3 +1,5 @@
+-- `reasons::outside` meets its promise.
+-- Assumes nothing.
 use mathlib.Core.Path.{_∙_, ap, ap₂}
 use mathlib.Core.Bool.{not}
 use Rattle.whole.specs.Promise.{isNegative}

@@ -1,3 +1,5 @@
+-- `reasons::skipped` meets its promise.
+-- Assumes nothing.
 use Rattle.reasons.specs.Laws.{AroundGap, gap-sides, never-side, refused-side}
 use borrow.Author.Needs.{needs}
 use Rattle.reasons.proofs.skipped.Statement.{statement}
