@@ -1,8 +1,8 @@
--- What `line_answer` promises: the answer to a line, by its name and its text. What a name comes to is given: N.
+-- What `parts_of` and `line_answer` promise: the name and the text of a line, and the answer to it by these. What a name comes to is given: N.
 -- Assumes nothing.
-use Prim.Native.Nat.{ℕ, _<_}
+use Prim.Native.Nat.{ℕ, _≤_, _<_}
 use mathlib.Core.List.{List}
-use lib.ListN.{length}
+use lib.ListN.{length, take, drop}
 use lib.IntN.{pos}
 use Rattle.calendar.specs.declared.Calendar.{Calendar}
 use Rattle.refusals.specs.declared.Refusal.{Refusal}
@@ -13,7 +13,14 @@ use Rattle.calendar.specs.declared.Chosen.the-variants as Chosen′
 use Rattle.calendar.specs.Rows.{If}
 use Rattle.calendar.specs.Promise.{refusal}
 use Rattle.dateparse.specs.Promise.{ParseDate}
+use Rattle.entry.specs.declared.Parts.{Parts}
 use Rattle.entry.specs.Entry.{longestEntry, Entry}
+
+-- where the name of the line l ends, and where its text begins
+pub record IsParted (l : List ℕ) (p : Parts) : Type 0 where
+  pub entry : Entry l (take (p .«name_end») l) (drop (p .«text_from») l)
+  pub name-inside : p .«name_end» ≤ length l
+  pub text-inside : p .«text_from» ≤ length l
 
 -- the answer to each name: its calendar, or its refusal
 abbrev pub Naming : Type 1

@@ -1,13 +1,13 @@
 // A line of a register: a calendar name, a tab and a date text. The answer to it is the day that it names, or its refusal. A name is built in, or
 // a catalogue in lent memory has it.
-// For users: `line_answer` and `LONGEST_ENTRY`.
+// For users: `line_answer` and `LONGEST_ENTRY`. For the crates above: `parts_of`.
 
 ghost use Prim.Native.Nat.{_≤_};
 ghost use lib.ListN.{length, take, drop};
 ghost use Rattle.nametable.specs.Promise.{memory};
 ghost use Rattle.catalogue.specs.Promise.{NamesIn};
 ghost use Rattle.dateparse.specs.Promise.{ParseDate};
-ghost use Rattle.entry.specs.Promise.{LineAnswer};
+ghost use Rattle.entry.specs.Promise.{LineAnswer, IsParted};
 ghost use Rattle.entry.specs.Laws.{TextFrom};
 use calendar::Calendar;
 use calendar::Chosen;
@@ -27,6 +27,22 @@ fn text_from(len: usize, tab: usize) -> usize
         return tab + 1;
     }
     tab
+}
+
+// Where the name of a line ends, and where its text begins.
+pub struct Parts {
+    pub name_end: usize,
+    pub text_from: usize,
+}
+
+pub fn parts_of(line: &[u8]) -> Parts
+    ensures { λ p. ⌜ IsParted (now (line .entry)) p ⌝ }
+{
+    let tab = bytesearch::by_eights(line, 0, b'\t');
+    Parts {
+        name_end: tab,
+        text_from: text_from(line.len(), tab),
+    }
 }
 
 // Each part of the line is lent in a function of its own, so that no function has both.
