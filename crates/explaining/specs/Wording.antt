@@ -62,7 +62,7 @@ unfoldable pub skippedPattern : List ℕ
 skippedPattern = bytes "~ was skipped in @: #-#-# (day #) was followed by #-#-# (day #).\n"
 
 unfoldable pub offYearPattern : List ℕ
-offYearPattern = bytes "~ is no date in @: a single number after the year counts its days, and the year # has # there.\n"
+offYearPattern = bytes "~ is no date in @: a single number after the year counts its days, and the year # has # days there.\n"
 
 unfoldable pub outsidePattern : Bool → List ℕ
 outsidePattern true = bytes "~ is too late in @: its day number would be above 2147483647.\n"

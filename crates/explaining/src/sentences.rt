@@ -191,8 +191,8 @@ fn put_skipped(
     say(out, at, &SKIPPED, &numbers, name, text)
 }
 
-const OFF_YEAR: [u8; 95] =
-    *b"~ is no date in @: a single number after the year counts its days, and the year # has # there.\n";
+const OFF_YEAR: [u8; 100] =
+    *b"~ is no date in @: a single number after the year counts its days, and the year # has # days there.\n";
 
 fn put_off_year(
     out: &mut [u8],
