@@ -151,7 +151,7 @@ def of_refused(number, c, said, name, text):
         return sentence('%s was skipped in %s: %s was followed by %s', text, name, on_day(c, c - 1), on_day(c, c))
     if number == 6:
         length = len(days_of_year(c, said[0]))
-        words = '%s is no date in %s: a single number after the year counts its days, and the year %d has %d there'
+        words = '%s is no date in %s: a single number after the year counts its days, and the year %d has %d days there'
         return sentence(words, text, name, said[0], length)
     assert number == 7
     end = 'late in %s: its day number would be above 2147483647' if day_of(c, said) > HIGH else 'early in %s: its day number would be below -2147483648'
