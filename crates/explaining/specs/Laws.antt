@@ -7,7 +7,7 @@ use mathlib.Core.List.{List, [], _∷_, _++_, append-assoc, append-nil}
 use mathlib.Core.Logic.{⊎-elim}
 use native.Mathlib.Omega.{arith}
 use lib.ListN.{length, getD, drop, set, length-append}
-use lib.Dec.{leb, ltb, eqb}
+use lib.Dec.{ltb, eqb}
 use lib.Seq.{drop-cons, drop-drop, drop-nil}
 use lib.IntN.{ℤ, pos, natAbs}
 use borrow.Author.Tests.{eqb-true, le-leb, lt-leb, le-ltb, lt-ltb}
@@ -21,7 +21,7 @@ use Rattle.expected.specs.declared.Expected.{Expected}
 use Rattle.whole.specs.Tests.{true-or-false}
 use Rattle.whole.specs.Promise.{isNegative}
 use Rattle.refusals.specs.declared.Refusal.{Refusal}
-use Rattle.writer.specs.Promise.{put, Copies, digitsOf, wholeText, Width, WholeDecimal, Puts, Writes, Signs}
+use Rattle.writer.specs.Promise.{Copies, wholeText, Width, WholeDecimal, Puts, Writes, Signs}
 use Rattle.writer.specs.Laws.{PutText, put-on, put-none, put-byte, Copying, copying-on, copying-done, length-digits, width-few, whole-text}
 use Rattle.writer.specs.declared.buffer.Copied.{Copied}
 use Rattle.writer.specs.declared.Written.{Written}

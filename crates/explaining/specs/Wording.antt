@@ -6,7 +6,6 @@ use mathlib.Core.List.{List, [], _∷_, _++_}
 use lib.Dec.{ltb, eqb}
 use Rattle.whole.specs.Text.{bytes, newline}
 use lib.IntN.{ℤ, pos}
-use Rattle.refusals.specs.declared.Refusal.{Refusal}
 use Rattle.calendar.specs.declared.Date.{Date}
 use Rattle.calendar.specs.declared.Style.{Style}
 use Rattle.calendar.specs.declared.Style.the-variants as Style′

@@ -1,6 +1,5 @@
 // The paragraph of each reason. Each function writes from `at` on, where it has room, and answers the offset after what it wrote.
 
-ghost use mathlib.Core.Path.{_≡_};
 ghost use mathlib.Core.List.{[], _++_};
 ghost use Prim.Native.Nat.{_+_, _≤_};
 ghost use lib.ListN.{length};

@@ -1,7 +1,7 @@
 -- `explaining::sentences::put_missing` meets its promise.
 -- Assumes nothing.
 use mathlib.Core.Path.{refl, _∙_}
-use borrow.Author.Needs.{needs, sfits-of}
+use borrow.Author.Needs.{needs}
 use mir.Facts.{toZ-ofZ}
 use Rattle.explaining.specs.Laws.{numbers-as, says-alone, also, held}
 use Rattle.whole.specs.Text.{bytes}
