@@ -38,10 +38,10 @@ pub struct Parts {
 pub fn parts_of(line: &[u8]) -> Parts
     ensures { λ p. ⌜ IsParted (now (line .entry)) p ⌝ }
 {
-    let tab = bytesearch::by_eights(line, 0, b'\t');
+    let name_end = bytesearch::by_eights(line, 0, b'\t');
     Parts {
-        name_end: tab,
-        text_from: text_from(line.len(), tab),
+        name_end,
+        text_from: text_from(line.len(), name_end),
     }
 }
 
