@@ -15,7 +15,7 @@ pub const BLOCK_SIZE: usize = 65536;
 pub enum Phase {
     // All of the block is used up: read the next one.
     Reading,
-    // The output was full before the block was used up: go on in the block.
+    // The block is not used up: the output was full, or one of its lines is answered. Go on in the block.
     Midway,
     // The input has ended, and this was the last of the output.
     Closing,
