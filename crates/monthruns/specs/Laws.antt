@@ -1,6 +1,6 @@
 -- From what the private functions say to the promise.
 -- Assumes nothing.
-use mathlib.Core.Path.{_≡_, sym, _∙_, ap, subst, subst₂}
+use mathlib.Core.Path.{_≡_, sym, _∙_, ap, ap₂, subst, subst₂}
 use mathlib.Core.Logic.{inl, inr, ⊎-elim}
 use Prim.Native.Nat.{ℕ, _+_, _-_, _<_, _≤_}
 use native.Mathlib.Omega.{arith}
@@ -26,10 +26,18 @@ use Rattle.switches.specs.declared.MonthSpan.{MonthSpan}
 use Rattle.months.specs.One.{label-of-month}
 use Rattle.months.specs.Natural.{SpanOf, Inside}
 use Rattle.months.specs.Laws.{month-days, month-row, span-room, inside, begins-old, label-in}
+use Rattle.monthruns.specs.declared.Run.{Run}
 use Rattle.monthruns.specs.declared.Runs.{Runs}
 use Rattle.monthruns.specs.declared.MonthDays.the-variants as MonthDays′
 use Rattle.monthruns.specs.Promise.{InRun, HasRuns, are-runs, RunsOf}
 use Rattle.monthruns.specs.Natural.{runOf, Few, AllInside, RunsIn, no-run, new-run, old-run, two-runs}
+
+-- ---- a run by its two days
+abbrev run : ℕ → ℕ → Run
+run a b = record { first = a; last = b }
+
+pub same-run : {a b c d : ℕ} → a ≡ c → b ≡ d → run a b ≡ run c d
+same-run = ap₂ run
 
 -- ---- The machine's room
 module _ (s : MonthSpan) (w : AllInside s) where

@@ -1,6 +1,7 @@
 -- `monthruns::run_between` meets its promise.
 -- Assumes nothing.
-use mathlib.Core.Path.{refl}
+use native.Mathlib.Omega.{arith}
+use Rattle.monthruns.specs.Laws.{same-run}
 use borrow.Author.Needs.{needs}
 use Rattle.monthruns.proofs.run_between.Statement.{statement}
 use Rattle.monthruns.proofs.run_between.Tie as tie
@@ -24,7 +25,7 @@ cast-t9 : tie.Need-cast-t9
 cast-t9 c = search needs
 
 returns : tie.Need-returns
-returns c = refl
+returns c = same-run (omega arith) (omega arith)
 
 pub run-between-spec : {M : Type 1} → statement M
 run-between-spec = tie.close (tie.spec add-t4 sub-t5 cast-t6 add-t7 sub-t8 cast-t9 returns)
