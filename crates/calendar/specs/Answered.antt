@@ -1,4 +1,4 @@
--- In any timeline that rises, every date of a 32-bit year has an answer: every year, month and day, and every year and ordinal.
+-- In any timeline that rises, every date has an answer: every year, month and day, and every year and ordinal.
 -- Assumes nothing.
 use mathlib.Core.Path.{_≡_, subst}
 use mathlib.Core.Logic.{_⊎_, inl, inr, ⊎-elim}
@@ -6,11 +6,11 @@ use Prim.Native.Nat.{ℕ, _+_, _-_, _<_, _≤_}
 use native.Mathlib.Omega.{arith}
 use lib.IntN.{ℤ, pos}
 use Rattle.whole.specs.Tests as N
-use Rattle.days.specs.DayByDay.{Label, label, Timeline, labelsIn, OfYear, Place, Is32Bit, Month, Rising}
+use Rattle.whole.specs.Promise.{unbias}
+use Rattle.days.specs.DayByDay.{Label, label, Timeline, labelsIn, OfYear, Place, Month, Rising}
 use Rattle.days.specs.RisingLabels.{days-one}
 use Rattle.days.specs.RisingSpans.{Stretch}
-use Rattle.days.specs.BiasedDays.{dayBias, day}
-use Rattle.days.specs.RisingTimelines.{rising-rises, timeline-proper, either-reckoning}
+use Rattle.days.specs.RisingTimelines.{rising-rises, timeline-proper, timeline-most}
 use Rattle.days.specs.RisingDecided.{Decided, fits-or-not, borne-or-not, skipped-or-not, year-days}
 use Rattle.calendar.specs.declared.Calendar.{Calendar}
 use Rattle.calendar.specs.declared.Dated.{Dated}
@@ -24,7 +24,7 @@ module _ (t : Timeline) (r : Rising t) (c : Calendar) where
   given-answered : (y n : ℤ) → (a : Dated) × GivenIn t c y n a
   given-answered y n = ⊎-elim (λ f. let (d, i) = has-record t r c n in (Dated′.Date d, passes f (record-of i))) (λ x. (refused 7 y, refuses x)) (fits-or-not n)
 
-  module _ {y : ℤ} (f : Is32Bit y) where
+  module _ (y : ℤ) where
     pub ymd-answered : (m d : ℕ) → (a : Dated) × YmdIn t c y m d a
     ymd-answered m d = ⊎-elim (λ v. let (a, p) = by-label in (a, passes v p)) (λ x. (refused 3 (pos m), refuses x)) month-or-not
       where
@@ -40,14 +40,14 @@ module _ (t : Timeline) (r : Rising t) (c : Calendar) where
             (λ s. ⊎-elim
             (λ (n, e). let (a, g) = given-answered y n in (a, passes (λ x. x .0 (n, e)) (passes s (on-label e g))))
             (λ x. (refused 4 (pos d), refuses (x, s)))
-            (borne-or-not (rising-rises r) (either-reckoning t) {l = l} f))
-            (skipped-or-not t {l = l} f)
+            (borne-or-not (rising-rises r) (timeline-proper t) (timeline-most t) l))
+            (skipped-or-not t l)
 
     pub ordinal-answered : (o : ℕ) → (a : Dated) × OrdinalIn t c y o a
-    ordinal-answered o = let (i, j, s) = year-days (rising-rises r) (either-reckoning t) (timeline-proper t) f in by s
+    ordinal-answered o = let (bias, i, j, s) = year-days (rising-rises r) (timeline-proper t) (timeline-most t) y in by s
       where
-        by : {i j : ℕ} → Stretch (labelsIn t) (OfYear y) dayBias i j → (a : Dated) × OrdinalIn t c y o a
-        by {i} {j} s = ⊎-elim
+        by : {bias i j : ℕ} → Stretch (labelsIn t) (OfYear y) bias i j → (a : Dated) × OrdinalIn t c y o a
+        by {bias} {i} {j} s = ⊎-elim
             (λ h. ⊎-elim (λ k. off (inr k)) (λ k. on h k) (N.lt-or-ge (j - i) o))
             (λ h. off (inl (omega arith)))
             (N.lt-or-ge 0 o)
@@ -57,9 +57,9 @@ module _ (t : Timeline) (r : Rising t) (c : Calendar) where
 
             on : 0 < o → o ≤ j - i → (a : Dated) × OrdinalIn t c y o a
             on h k =
-                let u : OfYear y (labelsIn t (day (i + o - 1))) = s .inside (i + o - 1) (omega arith) (omega arith) in
-                let (a, g) = given-answered y (day (i + o - 1)) in
-                (a, passes within (on-ordinal u (subst (Place (λ d. OfYear y (labelsIn t d)) (day (i + o - 1))) same (s .here (i + o - 1) u .2)) g))
+                let u : OfYear y (labelsIn t (unbias bias (i + o - 1))) = s .inside (i + o - 1) (omega arith) (omega arith) in
+                let (a, g) = given-answered y (unbias bias (i + o - 1)) in
+                (a, passes within (on-ordinal u (subst (Place (λ d. OfYear y (labelsIn t d)) (unbias bias (i + o - 1))) same (s .here (i + o - 1) u .2)) g))
               where
                 same : i + o - 1 + 1 - i ≡ o
                 same = omega arith

@@ -3,7 +3,7 @@ use mathlib.Core.Path.{_≡_}
 use mathlib.Core.Bool.{Bool, true, false}
 use lib.IntN.{ℤ}
 use Rattle.days.specs.DayByDay as D
-use Rattle.days.specs.DayByDay.{Label, label, Timeline, labelsIn, styleIn, Ordinal, DayOrdinal, JulianStyle, GregorianStyle}
+use Rattle.days.specs.DayByDay.{Label, label, Timeline, labelsIn, styleIn, Ordinal, DayOrdinal, JulianStyle, GregorianStyle, SwedishStyle}
 use Rattle.calendar.specs.declared.Calendar.{Calendar}
 use Rattle.calendar.specs.declared.Calendar.the-variants.{Julian, Gregorian, Reforming}
 use Rattle.calendar.specs.declared.Style.{Style}
@@ -33,6 +33,7 @@ Skipped c l = D.Skipped (definitionOf c) l
 abbrev pub styleOf : D.Style → Style
 styleOf JulianStyle = Style′.Julian
 styleOf GregorianStyle = Style′.Gregorian
+styleOf SwedishStyle = Style′.Swedish
 
 -- d is the record of day n in the timeline t, which its records call c: calendar, style, year, ordinal, month, day, day ordinal, day number
 pub record IsRecordIn (t : Timeline) (c : Calendar) (n : ℤ) (d : Date) : Type 0 where
@@ -62,8 +63,13 @@ isReforming (Reforming r) = true
 abbrev pub sameStyle : D.Style → D.Style → Bool
 sameStyle JulianStyle JulianStyle = true
 sameStyle JulianStyle GregorianStyle = false
+sameStyle JulianStyle SwedishStyle = false
 sameStyle GregorianStyle JulianStyle = false
 sameStyle GregorianStyle GregorianStyle = true
+sameStyle GregorianStyle SwedishStyle = false
+sameStyle SwedishStyle JulianStyle = false
+sameStyle SwedishStyle GregorianStyle = false
+sameStyle SwedishStyle SwedishStyle = true
 
 -- whether the label of a record is of this kind
 abbrev pub styleIs : D.Style → Date → Bool

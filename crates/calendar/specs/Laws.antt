@@ -11,7 +11,7 @@ use lib.IntN.{ℤ, pos}
 use Rattle.whole.specs.Tests.{lt-or-ge}
 use Rattle.whole.specs.Promise.{unbias}
 use Rattle.days.specs.DayByDay as D
-use Rattle.days.specs.DayByDay.{AcceptedReformation, Label, label, Borne, OfYear, Place, Ordinal, DayOrdinal, Is32Bit, JulianStyle, GregorianStyle, style, Month, monthLength}
+use Rattle.days.specs.DayByDay.{AcceptedReformation, Label, label, Borne, OfYear, Place, Ordinal, DayOrdinal, Is32Bit, JulianStyle, GregorianStyle, SwedishStyle, style, Month, monthLength}
 use Rattle.days.specs.RisingLabels.{nth-within}
 use Rattle.days.specs.BiasedDays.{dayBias, day, year, BiasedYear}
 use Rattle.days.specs.ClosedYear.{yearLength, year-most}
@@ -340,8 +340,13 @@ module _ {r : ℕ} (s : S.Spot) {a : ℕ} (l : OnSpot r s) (h : r ≤ s .biased)
 pub style-number-one : (a b : Style) → styleNumber a ≡ styleNumber b → a ≡ b
 style-number-one Style′.Julian Style′.Julian e = refl
 style-number-one Style′.Julian Style′.Gregorian e = absurd (omega arith)
+style-number-one Style′.Julian Style′.Swedish e = absurd (omega arith)
 style-number-one Style′.Gregorian Style′.Julian e = absurd (omega arith)
 style-number-one Style′.Gregorian Style′.Gregorian e = refl
+style-number-one Style′.Gregorian Style′.Swedish e = absurd (omega arith)
+style-number-one Style′.Swedish Style′.Julian e = absurd (omega arith)
+style-number-one Style′.Swedish Style′.Gregorian e = absurd (omega arith)
+style-number-one Style′.Swedish Style′.Swedish e = refl
 
 pub genuine-by : {d t : Date} → RecordOf (d .calendar) (d .jdn) (Dated′.Date t) → Accepted (d .calendar) → fieldsOf d ≡ fieldsOf t → Genuine d
 unfolding whole
@@ -395,8 +400,13 @@ converts-row g (passes x r) = passes (g, x) r
 same-style : (a b : D.Style) → eqb (styleNumber (styleOf b)) (styleNumber (styleOf a)) ≡ sameStyle a b
 same-style JulianStyle JulianStyle = refl
 same-style JulianStyle GregorianStyle = refl
+same-style JulianStyle SwedishStyle = refl
 same-style GregorianStyle JulianStyle = refl
 same-style GregorianStyle GregorianStyle = refl
+same-style GregorianStyle SwedishStyle = refl
+same-style SwedishStyle JulianStyle = refl
+same-style SwedishStyle GregorianStyle = refl
+same-style SwedishStyle SwedishStyle = refl
 
 -- that of a genuine record is that of its day
 pub tells-style : (a : D.Style) {d : Date} {b : Told} → TellsDate d (isOfStyle d (styleOf a)) b → TellsDate d (styleIs a d) b

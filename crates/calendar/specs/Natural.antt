@@ -161,6 +161,7 @@ ReformDateOf c b = Unless (Accepted c) (ReformDate′.Refused made-up) (ReformRe
 abbrev pub styleNumber : Style → ℕ
 styleNumber Style′.Julian = 0
 styleNumber Style′.Gregorian = 1
+styleNumber Style′.Swedish = 2
 
 -- the fields of a record that its day number and its calendar determine
 abbrev pub fieldsOf : Date → Fields

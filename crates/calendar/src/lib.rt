@@ -36,10 +36,12 @@ pub enum Calendar {
     Reforming(i32),
 }
 
-// The calendar by which a day is labelled: printed lists call the Julian one old style, the Gregorian one new style.
+// The calendar by which a day is labelled: printed lists call the Julian one old style, the Gregorian one new style. Swedish is
+// that of the days 1700-03-01 to 1712-02-30 of Sweden.
 pub enum Style {
     Julian,
     Gregorian,
+    Swedish,
 }
 
 // The record of a day in a calendar.
@@ -558,6 +560,7 @@ fn style_number(style: Style) -> u32
     match style {
         Style::Julian => 0,
         Style::Gregorian => 1,
+        Style::Swedish => 2,
     }
 }
 

@@ -13,10 +13,12 @@ use Rattle.linetext.specs.declared.LineNumbers.{LineNumbers}
 use Rattle.linetext.specs.declared.Line.{Line}
 use Rattle.linetext.specs.declared.Line.the-variants as Line′
 
--- the letters of a style as one number, the first and 256 times the second: `O` and `S` for old style, `N` and `S` for new
+-- the letters of a style as one number, the first and 256 times the second: `O` and `S` for old style, `N` and `S` for new,
+-- `S` and `V` for the Swedish one
 abbrev pub styleLetters : Style → ℕ
 styleLetters Style′.Julian = 79 + 256 * 83
 styleLetters Style′.Gregorian = 78 + 256 * 83
+styleLetters Style′.Swedish = 83 + 256 * 86
 
 -- the numbers in the line of a date: its weekday is that of its day number
 abbrev pub numbersOf : Date → LineNumbers

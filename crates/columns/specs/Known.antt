@@ -13,3 +13,7 @@ old-style = refl
 pub new-style : letters (styleLetters Style′.Gregorian) ≡ bytes "NS"
 unfolding bytes
 new-style = refl
+
+pub swedish-style : letters (styleLetters Style′.Swedish) ≡ bytes "SV"
+unfolding bytes
+swedish-style = refl

@@ -13,13 +13,14 @@ use writer::Written;
 use writer::buffer;
 use writer::buffer::Copied;
 
-// The letters of a style, `OS` and `NS`: the first, and 256 times the second.
+// The letters of a style, `OS`, `NS` and `SV`: the first, and 256 times the second.
 fn style_letters(style: Style) -> u64
     ensures { λ r. ⌜ r ≡ styleLetters style ⌝ }
 {
     match style {
         Style::Julian => 21_327,
         Style::Gregorian => 21_326,
+        Style::Swedish => 22_099,
     }
 }
 

@@ -1,6 +1,6 @@
 -- What is written of a date belongs to the grammar of date texts, and is read back.
 -- Assumes nothing.
-use Prim.Native.Nat.{ℕ, zero, suc, _<_, _^_}
+use Prim.Native.Nat.{ℕ, _<_, _^_}
 use mathlib.Core.Path.{_≡_}
 use mathlib.Core.List.{List}
 use native.Mathlib.Omega.{arith}
@@ -26,13 +26,6 @@ unsigned-text d h = record { numeral = d .numeral; fits = h }
 signed-text : {p : List ℕ} {y : ℤ} → WholeDecimal p y → SFits w32 y → Signed p y
 signed-text (WholeDecimal.not-negative d) f = Signed.plain (d .numeral) (f .sfits)
 signed-text (WholeDecimal.negative d) f = Signed.with-dash (d .numeral) (omega (arith, f .sfits))
-
--- a signed number in text is of 32 bits
-pub signed-fits : {p : List ℕ} {y : ℤ} → Signed p y → SFits w32 y
-signed-fits (Signed.plain n h) = record { sfits = h }
-signed-fits (Signed.with-plus n h) = record { sfits = h }
-signed-fits (Signed.with-dash {n = zero} x h) = record { sfits = omega arith }
-signed-fits (Signed.with-dash {n = suc n} x h) = record { sfits = omega arith }
 
 -- every year, month and day has a text
 pub has-text : (y : ℤ) (m d : ℕ) → (u : List ℕ) × YmdDecimal u y m d

@@ -29,7 +29,7 @@ use Rattle.writer.specs.declared.Written.{Written}
 use Rattle.datetext.specs.Grammar.{OrdinalText, YmdText}
 use Rattle.datetext.specs.Theorems as T
 use Rattle.dateparse.specs.EveryText.{Says, says-ymd, says-ordinal, EveryText}
-use Rattle.dateparse.specs.ReadBack.{signed-fits, has-text, written-writes}
+use Rattle.dateparse.specs.ReadBack.{has-text, written-writes}
 use Rattle.dateparse.specs.One.{by-text-one}
 use Rattle.dateparse.specs.Promise.{placedAt, ByTextIn, ByText, by-fault, by-ordinal, by-ymd, ParseDate, WriteDate}
 
@@ -99,10 +99,10 @@ module _ (t : Timeline) (r : Rising t) (c : Calendar) {n : ℤ} {d : Date} (f : 
 -- ---- Every text has an answer
 module _ (t : Timeline) (r : Rising t) (c : Calendar) where
   ordinal-text-answered : {s : List ℕ} {y : ℤ} {o k : ℕ} → OrdinalText s y o k → (a : Dated) × ByTextIn t c s a
-  ordinal-text-answered (OrdinalText.ordinal {n = o} p q) = let (a, g) = ordinal-answered t r c (signed-fits p) o in (_, by-ordinal (OrdinalText.ordinal p q) g)
+  ordinal-text-answered {y = y} (OrdinalText.ordinal {n = o} p q) = let (a, g) = ordinal-answered t r c y o in (_, by-ordinal (OrdinalText.ordinal p q) g)
 
   ymd-text-answered : {s : List ℕ} {y : ℤ} {m d k : ℕ} → YmdText s y m d k → (a : Dated) × ByTextIn t c s a
-  ymd-text-answered (YmdText.ymd {m} {d} p q mo i) = let (a, g) = ymd-answered t r c (signed-fits p) m d in (_, by-ymd (YmdText.ymd p q mo i) g)
+  ymd-text-answered {y = y} (YmdText.ymd {m} {d} p q mo i) = let (a, g) = ymd-answered t r c y m d in (_, by-ymd (YmdText.ymd p q mo i) g)
 
   text-answered : (s : List ℕ) → (a : Dated) × ByTextIn t c s a
   text-answered s = ⊎-elim by (λ (f, q). (Dated′.Refused f, by-fault q)) (T.belongs-or-faulty s)

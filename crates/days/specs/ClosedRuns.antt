@@ -1,10 +1,10 @@
 -- An accepted calendar as two runs of days that are biased as naturals: Julian below day r, Gregorian from it on. The Julian calendar has its r
--- above every such day, the Gregorian one below: so what is said here is said once for all three kinds, and a calendar has one r. From it:
+-- above every such day, the Gregorian one below: so what is said here is said once for these three kinds, and a calendar has one r. From it:
 -- which day bears a label, which labels are skipped, and the days of a year and of a month.
 -- Assumes nothing.
 use mathlib.Core.Path.{_≡_, refl, sym, _∙_, ap, subst, subst₂}
 use mathlib.Core.Bool.{Bool, cond}
-use mathlib.Core.Logic.{inl, ⊎-elim}
+use mathlib.Core.Logic.{inl, inr, ⊎-elim}
 use Prim.Native.Nat.{ℕ, _+_, _-_, _<_, _≤_}
 use native.Mathlib.Omega.{arith}
 use native.Mathlib.Numerals.{add-one}
@@ -27,8 +27,7 @@ use Rattle.days.specs.ClosedJulian as J
 use Rattle.days.specs.ClosedGregorian as G
 use Rattle.days.specs.ClosedNumbers.{There, number, numbered, there, daysBefore, within-year, month-first, month-past}
 use Rattle.days.specs.ReckoningLabels.{julian-rises, gregorian-rises}
-use Rattle.days.specs.RisingTimelines.{either-reckoning}
-use Rattle.days.specs.AcceptedCalendars.{reforming-below, reforming-from, accepted-rises, labels-proper, no-switch}
+use Rattle.days.specs.AcceptedCalendars.{EitherLabel, reforming-below, reforming-from, reforming-either, accepted-rises, labels-proper, no-switch}
 use Rattle.days.specs.ReformationTable.{fits-only}
 
 -- no day that is looked at is biased as more
@@ -39,7 +38,10 @@ pub record Runs (c : Calendar) (r : ℕ) : Type 0 where
   pub accepted : Accepted c
   pub below : (k : ℕ) → k < r → k < top → (labels c (day k) ≡ labelOf julian (day k)) × (style c (day k) ≡ JulianStyle)
   pub above : (k : ℕ) → r ≤ k → k < top → (labels c (day k) ≡ labelOf gregorian (day k)) × (style c (day k) ≡ GregorianStyle)
+  -- also a day that is not biased so has one of the two labels
+  pub either : (n : ℤ) → EitherLabel c n
   pub switches : 1 ≤ r → r < top → SwitchDay (timeline c .switches) (day r)
+  pub reforms : 1 ≤ r → r < top → AcceptedReformation (day r)
   pub no-other : (d : ℤ) → SwitchDay (timeline c .switches) d → d ≡ day r
   -- the r of a calendar that is never Gregorian is top itself, and nothing above it
   pub most : r ≤ top
@@ -53,7 +55,9 @@ julian-runs = record {
   accepted = julian-accepted;
   below = λ k h t. (refl, refl);
   above = λ k h t. absurd (never-below k top h t);
+  either = λ n. inl refl;
   switches = λ h t. absurd (never-below top top (omega arith) t);
+  reforms = λ h t. absurd (never-below top top (omega arith) t);
   no-other = λ d s. absurd (no-switch s);
   most = le-refl top;
 }
@@ -63,7 +67,9 @@ gregorian-runs = record {
   accepted = gregorian-accepted;
   below = λ k h t. absurd (never-below k 0 (omega arith) h);
   above = λ k h t. (refl, refl);
+  either = λ n. inr refl;
   switches = λ h t. absurd (never-below 0 1 h (omega arith));
+  reforms = λ h t. absurd (never-below 0 1 h (omega arith));
   no-other = λ d s. absurd (no-switch s);
   most = omega arith;
 }
@@ -73,7 +79,9 @@ reforming-runs r a = record {
   accepted = reforming-accepted a;
   below = λ k h t. reforming-below (day r) (unbias-up dayBias h);
   above = λ k h t. reforming-from (day r) (unbias-le dayBias r k h);
+  either = reforming-either (day r);
   switches = λ h t. this;
+  reforms = λ h t. a;
   no-other = only;
   most = omega (arith, fits-only r (a .julian-day-fits));
 }
@@ -163,7 +171,7 @@ module _ {c : Calendar} {r : ℕ} (runs : Runs c r) where
       let (i, f, g, u) = early (day k) (sym (runs .above k h t .0) ∙ ap (labels c) (sym d) ∙ e) in never k i (unbias-injective dayBias k i f) h g)
       (λ q. let (k, d, h, t) = early n (sym q ∙ e) in
       let (i, f, g, u) = late (day k) (sym (runs .below k h t .0) ∙ ap (labels c) (sym d) ∙ e) in never i k (sym (unbias-injective dayBias k i f)) g h)
-      (either-reckoning (timeline c) n)
+      (runs .either n)
     where
       never : (k i : ℕ) → k ≡ i → r ≤ k → i < r → ⊥
       never k i e h g = omega arith

@@ -109,19 +109,28 @@ gregorian = record { leap = gregorianLeap; anchor = pos 2_299_161; anchorLabel =
 unfoldable pub splice : {A : Type 0} → ℤ → (ℤ → A) → (ℤ → A) → ℤ → A
 splice d f g n = cond (ltZ n d) (f n) (g n)
 
--- what counts as the label of a day: its Julian label, or its Gregorian one
+-- what counts as the label of a day: its Julian or its Gregorian label, moved by a number of days, or 30 February of a year
 pub data Counts : Type 0 where
-  JulianLabels : Counts
-  GregorianLabels : Counts
+  JulianBy : ℤ → Counts
+  GregorianBy : ℤ → Counts
+  Thirtieth : ℤ → Counts
+
+-- labels moved by k days: day n has the label of day n + k
+abbrev pub moved : ℤ → (ℤ → Label) → ℤ → Label
+moved (pos zero) f n = f n
+moved (pos (suc k)) f n = f (n +ℤ pos (suc k))
+moved (negsuc k) f n = f (n +ℤ negsuc k)
 
 abbrev pub counted : Counts → ℤ → Label
-counted JulianLabels = labelOf julian
-counted GregorianLabels = labelOf gregorian
+counted (JulianBy k) n = moved k (labelOf julian) n
+counted (GregorianBy k) n = moved k (labelOf gregorian) n
+counted (Thirtieth y) n = label y 2 30
 
 -- the kind of a label
 pub data Style : Type 0 where
   JulianStyle : Style
   GregorianStyle : Style
+  SwedishStyle : Style
 
 -- an era: its style, and what counts in it
 pub record Era : Type 0 where
@@ -129,10 +138,10 @@ pub record Era : Type 0 where
   pub counts : Counts
 
 abbrev pub julianEra : Era
-julianEra = record { style = JulianStyle; counts = JulianLabels }
+julianEra = record { style = JulianStyle; counts = JulianBy (pos 0) }
 
 abbrev pub gregorianEra : Era
-gregorianEra = record { style = GregorianStyle; counts = GregorianLabels }
+gregorianEra = record { style = GregorianStyle; counts = GregorianBy (pos 0) }
 
 -- a switch: from this day on, this era
 pub record Switch : Type 0 where
@@ -165,12 +174,24 @@ pub data Calendar : Type 0 where
   Julian : Calendar
   Gregorian : Calendar
   Reforming : ℤ → Calendar
+  Swedish : Calendar
 
--- reforming at r, days below r have their Julian label, days from r on their Gregorian one (shown in `AcceptedCalendars`: `reforming-labels`)
+-- reforming at r, days below r have their Julian label, days from r on their Gregorian one (shown in `AcceptedCalendars`: `reforming-labels`).
+-- Sweden: after 28 February 1700 came 1 March, one day ahead of the Julian count; 1712 had a 30 February, and 1 March 1712 was Julian again;
+-- 17 February 1753 was followed by 1 March, Gregorian
 abbrev pub timeline : Calendar → Timeline
 timeline Julian = record { before = julianEra; switches = [] }
 timeline Gregorian = record { before = gregorianEra; switches = [] }
 timeline (Reforming r) = record { before = julianEra; switches = record { on = r; era = gregorianEra } ∷ [] }
+timeline Swedish = record {
+  before = julianEra;
+  switches =
+      record { on = pos 2_342_042; era = record { style = SwedishStyle; counts = JulianBy (pos 1) } }
+      ∷ record { on = pos 2_346_425; era = record { style = SwedishStyle; counts = Thirtieth (pos 1712) } }
+      ∷ record { on = pos 2_346_426; era = julianEra }
+      ∷ record { on = pos 2_361_390; era = gregorianEra }
+      ∷ [];
+}
 
 abbrev pub labels : Calendar → ℤ → Label
 labels c = labelsIn (timeline c)
@@ -257,6 +278,7 @@ pub data Accepted : Calendar → Type 0 where
   julian-accepted : Accepted Julian
   gregorian-accepted : Accepted Gregorian
   reforming-accepted : {r : ℤ} → AcceptedReformation r → Accepted (Reforming r)
+  swedish-accepted : Accepted Swedish
 
 -- ---- Skipped dates and missing ones
 
@@ -299,11 +321,14 @@ abbrev pub InOrder : List Switch → Type 0
 InOrder [] = Unit {0}
 InOrder (s ∷ l) = After (s .on) l
 
--- the days of the switches rise, the first label of each switch is later than the label of the day before it, and the year of every 32-bit
--- day is a 32-bit number
 pub record Rising (t : Timeline) : Type 0 where
+  -- the days of the switches rise
   pub in-order : InOrder (t .switches)
+  -- a 30 February lasts one day, the next switch coming on the day after
+  pub one-day : (n y : ℤ) → era t n .counts ≡ Thirtieth y → SwitchDay (t .switches) (sucℤ n)
+  -- the first label of each switch is later than the label of the day before it
   pub first-later : (d : ℤ) → SwitchDay (t .switches) d → labelsIn t (d -ℤ pos 1) ≺ labelsIn t d
+  -- the year of every 32-bit day is a 32-bit number
   pub year-fits : (n : ℤ) → Is32Bit n → Is32Bit (labelsIn t n .year)
 
 -- ---- Unix time

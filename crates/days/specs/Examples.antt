@@ -3,7 +3,7 @@
 use mathlib.Core.Path.{_≡_, refl, _∙_}
 use mathlib.Core.List.{[], _∷_}
 use lib.IntN.{pos, negsuc}
-use Rattle.days.specs.DayByDay.{label, labelOf, stepping, nextLabel, prevLabel, monthLength, julian, julianLeap, gregorian, gregorianLeap, splice, JulianStyle, GregorianStyle, julianEra, gregorianEra, Timeline, styleIn, Reforming, labels, weekday, nextWeekday, prevWeekday}
+use Rattle.days.specs.DayByDay.{label, labelOf, stepping, nextLabel, prevLabel, monthLength, julian, julianLeap, gregorian, gregorianLeap, splice, JulianBy, counted, JulianStyle, GregorianStyle, julianEra, gregorianEra, Timeline, styleIn, Reforming, labels, weekday, nextWeekday, prevWeekday}
 
 -- day 59 is 29 February -4712, day -1 is 31 December -4713, day -366 is 31 December -4714
 leap-day : labelOf julian (pos 59) ≡ label (negsuc 4711) 2 29
@@ -21,6 +21,15 @@ year-before = refl
 eve : labelOf gregorian (pos 2_299_160) ≡ label (pos 1582) 10 14
 unfolding labelOf stepping prevLabel monthLength gregorian gregorianLeap
 eve = refl
+
+-- one day ahead, day 58 has the label of day 59, and one day behind day 60 has it
+day-ahead : counted (JulianBy (pos 1)) (pos 58) ≡ label (negsuc 4711) 2 29
+unfolding labelOf stepping nextLabel monthLength julian julianLeap
+day-ahead = refl
+
+day-behind : counted (JulianBy (negsuc 0)) (pos 60) ≡ label (negsuc 4711) 2 29
+unfolding labelOf stepping nextLabel monthLength julian julianLeap
+day-behind = refl
 
 -- the first day of the reformed calendar of 1582 is 15 October, and not 5 October
 first-gregorian : labelOf gregorian (pos 2_299_161) ≡ label (pos 1582) 10 15

@@ -35,3 +35,5 @@ pub mod AcceptedCalendars
 pub mod AcceptedYears
 -- Which labels can be skipped.
 pub mod SkippedLabels
+-- The Swedish calendar: that it rises.
+pub mod Swedish

@@ -1,26 +1,24 @@
--- What is decided of labels: which of two is earlier; and, of a label of a 32-bit year, whether a day of a timeline that rises bears it, and
--- whether it is skipped. The search goes day by day, from a day before the year to one after it, and finds the days of the year too.
+-- What is decided of labels: which of two is earlier; whether a day of a timeline that rises bears one, and whether it is skipped. Some day is of an
+-- earlier year than a label, and some day of a later one: the search goes day by day from the one to the other, and finds the days of a year too.
 -- Assumes nothing.
 use mathlib.Core.Path.{_≡_, refl, sym, _∙_, ap, subst}
-use mathlib.Core.Bool.{Bool}
 use mathlib.Core.List.{List, [], _∷_}
 use mathlib.Core.Logic.{_⊎_, inl, inr, ⊎-elim}
-use Prim.Native.Nat.{ℕ, zero, suc, _+_, _≤_}
+use Prim.Native.Nat.{ℕ, zero, suc, _≤_}
 use native.Mathlib.Omega.{arith}
-use lib.IntN.{ℤ, pos, negsuc, sucℤ, _-ℤ_}
+use lib.Dec.{le→leb}
+use lib.IntN.{ℤ, pos, negsuc, sucℤ, _+ℤ_, _-ℤ_, +ℤ-idr, +ℤ-sucℤ, sucℤ-+ℤ, +ℤ-negℤ-cancel, -ℤ-one, pred-suc}
 use lib.Signed.{_<ℤ_, _≤ℤ_, <ℤ-≤ℤ-trans, clashℤ}
-use Rattle.whole.specs.Biased.{unbias-suc, unbias-sub}
+use Rattle.whole.specs.Biased.{unbias-below}
+use Rattle.whole.specs.Promise.{unbias}
 use Rattle.whole.specs.Edge.{fits-from, fits-to, fits-between}
-use Rattle.whole.specs.Integers.{lt-or-ge, le-trans, le-lt-trans, antisym, eq-le, unbias-up, unbias-le}
-use Rattle.days.specs.DayByDay.{Label, label, Reckoning, labelOf, julian, gregorian, _≺_, by-year, Switch, Timeline, labelsIn, Rises, Borne, OfYear, Is32Bit, SwitchDay, this, later, Skippable, SkippedIn}
+use Rattle.whole.specs.Integers.{lt-or-ge, lt-trans, le-trans, le-lt-trans, lt-suc-le, suc-le, back-one, steps, antisym, eq-le}
+use Rattle.days.specs.DayByDay.{Label, label, _≺_, by-year, Switch, Timeline, labelsIn, Rises, Borne, OfYear, Is32Bit, SwitchDay, this, later, Skippable, SkippedIn}
 use Rattle.days.specs.LabelOrder.{≺-irrefl, ≺-trans, ≺-year, ≺-total}
-use Rattle.days.specs.RisingLabels.{no-later, no-earlier-year}
+use Rattle.days.specs.RisingLabels.{up-back}
 use Rattle.days.specs.RisingSpans.{Proper, First, first-by, first-at, Stretch, stretch, year-span, biased-from}
-use Rattle.days.specs.BiasedDays.{dayBias, yearBias, day, year}
-use Rattle.days.specs.ClosedStarts.{Starts, start-right}
-use Rattle.days.specs.ClosedJulian as J
-use Rattle.days.specs.ClosedGregorian as G
-use Rattle.days.specs.ReckoningLabels.{reckoning-rises, julian-rises, gregorian-rises}
+use Rattle.days.specs.RisingPlaces.{one-more, year-falls}
+use Rattle.days.specs.ReckoningLabels.{julian-rises, gregorian-rises, julian-proper, gregorian-proper, julian-most, gregorian-most}
 
 -- P holds, or it doesn't
 abbrev pub Decided : Type 0 → Type 0
@@ -41,13 +39,13 @@ same-or-not l m = ⊎-elim (λ h. inr (λ e. ≺-irrefl (subst (λ (x : Label). 
 
 -- ---- The first day whose label is not before l
 module _ {f : ℤ → Label} (up : Rises f) {l : Label} where
-  -- there is one if the label of some day a is before l and that of some day b is not
-  search-on : (k a b : ℕ) → b ≤ a + k → f (day a) ≺ l → ¬ (f (day b) ≺ l) → (i : ℕ) × (1 ≤ i) × First f l (day i)
-  search-on zero a b h p q = absurd (q (no-later up (unbias-le dayBias b a (omega arith)) p))
-  search-on (suc k) a b h p q = ⊎-elim
-      (λ g. search-on k (a + 1) b (omega arith) g q)
-      (λ g. (a + 1, omega arith, first-by up (subst (λ (z : ℤ). f z ≺ l) (sym (unbias-sub dayBias a 1)) p) g))
-      (earlier-or-not (f (day (a + 1))) l)
+  -- there is one if the label of some day a is before l, and that of a day k days on is not
+  search-on : (k : ℕ) (a : ℤ) → f a ≺ l → ¬ (f (a +ℤ pos k) ≺ l) → (i : ℤ) × First f l i
+  search-on zero a p q = absurd (q (subst (λ (z : ℤ). f z ≺ l) (sym (+ℤ-idr a)) p))
+  search-on (suc k) a p q = ⊎-elim
+      (λ g. search-on k (sucℤ a) g (subst (λ (z : ℤ). ¬ (f z ≺ l)) (+ℤ-sucℤ a (pos k) ∙ sym (sucℤ-+ℤ a (pos k))) q))
+      (λ g. (sucℤ a, first-by up (subst (λ (z : ℤ). f z ≺ l) (sym (-ℤ-one (sucℤ a) ∙ pred-suc a)) p) g))
+      (earlier-or-not (f (sucℤ a)) l)
 
   -- and no two
   no-sooner : {a b : ℤ} → First f l a → First f l b → a ≤ℤ b
@@ -57,53 +55,59 @@ module _ {f : ℤ → Label} (up : Rises f) {l : Label} where
   borne-by : {a : ℤ} → First f l a → Decided (Borne f l)
   borne-by {a} p = ⊎-elim (λ e. inl (a, e)) (λ x. inr (λ b. x (ap f (antisym (no-sooner p (first-at up (b .1))) (no-sooner (first-at up (b .1)) p)) ∙ b .1))) (same-or-not (f a) l)
 
--- ---- The year of a day of one reckoning is no later than y up to the first day of y, and no earlier from it on
-module _ {c : Reckoning} {leapAt : ℕ → Bool} {start : ℕ → ℕ} (s : Starts c leapAt start) (k y : ℕ) where
-  start-year : labelOf c (day (start y)) .year ≡ year y
-  start-year = ap (λ (l : Label). l .year) (start-right s y)
+-- a whole number is biased as a natural from 1 on
+some-bias : (z : ℤ) → (bias : ℕ) × (unbias bias 1 ≤ℤ z)
+some-bias (pos n) = (1, record { le = le→leb 0 n (omega arith) })
+some-bias (negsuc n) = (suc (suc n), eq-le (unbias-below (suc (suc n)) 1 (omega arith) ∙ ap negsuc (omega arith)))
 
-  year-by : k ≤ start y → (labelOf c (day k) .year) ≤ℤ year y
-  year-by h = le-trans (no-earlier-year (reckoning-rises c (s .anchor-valid)) (unbias-le dayBias k (start y) h)) (eq-le start-year)
+-- ---- A labelling that rises, of months 1 to 12 and days 1 to 31
+module _ {f : ℤ → Label} (up : Rises f) (proper : (n : ℤ) → Proper (f n)) (most : (n : ℤ) → f n .day ≤ 31) where
+  -- some day is of a year before y, and some day of a year after it: in 400 days the year changes
+  falls-to : (y : ℤ) (k : ℕ) (n : ℤ) → (f n .year) ≤ℤ (y +ℤ pos k) → (i : ℤ) × ((f i .year) <ℤ y)
+  falls-to y zero n h = (n -ℤ pos 400, <ℤ-≤ℤ-trans (year-falls up proper most n) (le-trans h (eq-le (+ℤ-idr y))))
+  falls-to y (suc k) n h = falls-to y k (n -ℤ pos 400) (lt-suc-le (<ℤ-≤ℤ-trans (year-falls up proper most n) (le-trans h (eq-le (+ℤ-sucℤ y (pos k))))))
 
-  year-since : start y ≤ k → year y ≤ℤ (labelOf c (day k) .year)
-  year-since h = le-trans (eq-le (sym start-year)) (no-earlier-year (reckoning-rises c (s .anchor-valid)) (unbias-le dayBias (start y) k h))
+  year-before : (y : ℤ) → (i : ℤ) × ((f i .year) <ℤ y)
+  year-before y = ⊎-elim
+      (λ h. let (k, e) = steps h in falls-to y (suc k) (pos 0) (eq-le e))
+      (λ h. falls-to y 0 (pos 0) (le-trans h (eq-le (sym (+ℤ-idr y)))))
+      (lt-or-ge y (f (pos 0) .year))
 
--- a 32-bit year is biased as a natural
-pub biased-year : {z : ℤ} → Is32Bit z → (y : ℕ) × (z ≡ year y) × (352 ≤ y)
-biased-year {z} f = biased-from yearBias 352 z (fits-from f)
+  year-grows : (n : ℤ) → (f n .year) <ℤ (f (n +ℤ pos 400) .year)
+  year-grows n = subst (λ (z : ℤ). (f z .year) <ℤ (f (n +ℤ pos 400) .year)) (+ℤ-negℤ-cancel n (pos 400)) (year-falls up proper most (n +ℤ pos 400))
 
--- ---- A labelling that rises, and has on each day its Julian or its Gregorian label
-module _ {f : ℤ → Label} (up : Rises f) (either : (n : ℤ) → (f n ≡ labelOf julian n) ⊎ (f n ≡ labelOf gregorian n)) where
-  of-either : (P : ℤ → Type 0) (n : ℤ) → P (labelOf julian n .year) → P (labelOf gregorian n .year) → P (f n .year)
-  of-either P n p q = ⊎-elim (λ e. subst (λ (l : Label). P (l .year)) (sym e) p) (λ e. subst (λ (l : Label). P (l .year)) (sym e) q) (either n)
+  grows-to : (y : ℤ) (k : ℕ) (n : ℤ) → (y -ℤ pos k) ≤ℤ (f n .year) → (i : ℤ) × (y <ℤ (f i .year))
+  grows-to y zero n h = (n +ℤ pos 400, le-lt-trans (subst (λ (z : ℤ). z ≤ℤ (f n .year)) (+ℤ-idr y) h) (year-grows n))
+  grows-to y (suc k) n h = grows-to y k (n +ℤ pos 400)
+      (subst (λ (z : ℤ). z ≤ℤ (f (n +ℤ pos 400) .year)) (ap sucℤ (one-more y k) ∙ back-one (y -ℤ pos k)) (suc-le (le-lt-trans h (year-grows n))))
 
-  -- a label of a biased year has such a first day
-  has-first : {l : Label} (y : ℕ) → 1 ≤ y → OfYear (year y) l → (i : ℕ) × (1 ≤ i) × First f l (day i)
-  has-first {l} y h e = search-on up past 0 past (omega arith)
-      (by-year (<ℤ-≤ℤ-trans (le-lt-trans low (unbias-up yearBias h)) (eq-le (sym e)))) (λ q. clashℤ next (le-trans high (le-trans (≺-year q) (eq-le e))))
-    where
-      next : year y <ℤ year (suc y)
-      next = unbias-up yearBias {a = y} {b = suc y} (omega arith)
+  year-after : (y : ℤ) → (i : ℤ) × (y <ℤ (f i .year))
+  year-after y = ⊎-elim
+      (λ h. let (k, e) = steps h in grows-to y (suc k) (pos 0) (eq-le (ap (λ (z : ℤ). z -ℤ pos (suc k)) e ∙ +ℤ-negℤ-cancel (f (pos 0) .year) (pos (suc k)))))
+      (λ h. grows-to y 0 (pos 0) (le-trans (eq-le (+ℤ-idr y)) h))
+      (lt-or-ge (f (pos 0) .year) y)
 
-      past : ℕ
-      past = J.start (suc y) + G.start (suc y)
+  -- so every label has such a first day
+  has-first : (l : Label) → (i : ℤ) × First f l i
+  has-first l =
+      let (a, p) = year-before (l .year) in
+      let (b, q) = year-after (l .year) in
+      let (k, e) = steps (up-back up {a = a} {b = b} (by-year (lt-trans p q))) in
+      search-on up (suc k) a (by-year p) (λ r. clashℤ q (≺-year (subst (λ (z : ℤ). f z ≺ l) (sym e) r)))
 
-      low : (f (day 0) .year) ≤ℤ year 0
-      low = of-either (λ z. z ≤ℤ year 0) (day 0) (year-by J.starts 0 0 (omega arith)) (year-by G.starts 0 0 (omega arith))
+  pub borne-or-not : (l : Label) → Decided (Borne f l)
+  borne-or-not l = let (i, p) = has-first l in borne-by up p
 
-      high : year (suc y) ≤ℤ (f (day past) .year)
-      high = of-either (λ z. year (suc y) ≤ℤ z) (day past) (year-since J.starts past (suc y) (omega arith)) (year-since G.starts past (suc y) (omega arith))
-
-  pub borne-or-not : {l : Label} → Is32Bit (l .year) → Decided (Borne f l)
-  borne-or-not g = let (y, e, h) = biased-year g in let (i, k, p) = has-first y (omega arith) e in borne-by up p
-
-  -- the days of a 32-bit year
-  pub year-days : ((n : ℤ) → Proper (f n)) → {z : ℤ} → Is32Bit z → (a : ℕ) × (b : ℕ) × Stretch f (OfYear z) dayBias a b
-  year-days good {z} g =
-      let (y, e, h) = biased-year g in
-      let (a, k, p) = has-first {l = label z 1 1} y (omega arith) e in
-      let (b, i, q) = has-first {l = label (sucℤ z) 1 1} (suc y) (omega arith) (ap sucℤ e ∙ sym (unbias-suc yearBias y)) in
-      (a, b, stretch up good (year-span z) dayBias p q k)
+  -- the days of a year
+  pub year-days : (y : ℤ) → (bias : ℕ) × (a : ℕ) × (b : ℕ) × Stretch f (OfYear y) bias a b
+  year-days y =
+      let (i, p) = has-first (label y 1 1) in
+      let (j, q) = has-first (label (sucℤ y) 1 1) in
+      let h : i ≤ℤ j = ⊎-elim (λ g. absurd (q .not-earlier j (eq-le refl) (≺-trans (p .earlier j g) (year-span y .rising)))) (λ g. g) (lt-or-ge j i) in
+      let (bias, g) = some-bias i in
+      let (a, d, u) = biased-from bias 1 i g in
+      let (b, e, v) = biased-from bias 1 j (le-trans g h) in
+      (bias, a, b, stretch up proper (year-span y) bias (subst (First f (label y 1 1)) d p) (subst (First f (label (sucℤ y) 1 1)) e q) u)
 
 -- ---- Skipped labels: the switches are gone through
 switch-or-none : {P : ℤ → Type 0} → ((d : ℤ) → Decided (P d)) → (l : List Switch) → Decided ((d : ℤ) × SwitchDay l d × P d)
@@ -115,19 +119,19 @@ switch-or-none {P} decides (s ∷ l) = ⊎-elim (λ p. inl (s .on, this, p))
     by x y this p = x p
     by x y (later i) p = y (_, i, p)
 
-skippable-or-not : {l : Label} → Is32Bit (l .year) → Decided (Skippable l)
-skippable-or-not f = ⊎-elim (λ b. inl (inl b))
-    (λ x. ⊎-elim (λ b. inl (inr b)) (λ y. inr (⊎-elim x y)) (borne-or-not gregorian-rises (λ n. inr refl) f))
-    (borne-or-not julian-rises (λ n. inl refl) f)
+skippable-or-not : (l : Label) → Decided (Skippable l)
+skippable-or-not l = ⊎-elim (λ b. inl (inl b))
+    (λ x. ⊎-elim (λ b. inl (inr b)) (λ y. inr (⊎-elim x y)) (borne-or-not gregorian-rises gregorian-proper gregorian-most l))
+    (borne-or-not julian-rises julian-proper julian-most l)
 
-pub skipped-or-not : (t : Timeline) {l : Label} → Is32Bit (l .year) → Decided (SkippedIn t l)
-skipped-or-not t {l} f = ⊎-elim
+pub skipped-or-not : (t : Timeline) (l : Label) → Decided (SkippedIn t l)
+skipped-or-not t l = ⊎-elim
     (λ b. ⊎-elim
     (λ (d, i, p). inl (record { switch = d; switches = i; past-last = p .0; before-first = p .1; skippable = b }))
     (λ x. inr (λ s. x (s .switch, s .switches, (s .past-last, s .before-first))))
     (switch-or-none over (t .switches)))
     (λ x. inr (λ s. x (s .skippable)))
-    (skippable-or-not f)
+    (skippable-or-not l)
   where
     over : (d : ℤ) → Decided ((labelsIn t (d -ℤ pos 1) ≺ l) × (l ≺ labelsIn t d))
     over d = ⊎-elim (λ p. ⊎-elim (λ q. inl (p, q)) (λ x. inr (λ h. x (h .1))) (earlier-or-not l (labelsIn t d))) (λ x. inr (λ h. x (h .0)))

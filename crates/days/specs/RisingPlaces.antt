@@ -1,4 +1,4 @@
--- Every day of a timeline that rises has its ordinal and its day ordinal.
+-- The labels of a year are few. So every day of a timeline that rises has its ordinal and its day ordinal, and 400 days before it is an earlier year.
 -- Assumes nothing.
 use mathlib.Core.Path.{_≡_, refl, sym, _∙_, ap, subst}
 use mathlib.Core.Logic.{_⊎_, inl, inr, ⊎-elim}
@@ -9,7 +9,7 @@ use lib.Signed.{_<ℤ_, <ℤ-irrefl}
 use Rattle.whole.specs.Integers.{lt-or-ge, lt-le, antisym, back-lt, back-le}
 use Rattle.whole.specs.Tests as N
 use Rattle.days.specs.DayByDay.{Label, _≺_, by-year, by-month, by-day, Timeline, labelsIn, Rising, Rises, OfMonth, Place, Ordinal, DayOrdinal}
-use Rattle.days.specs.RisingLabels.{Run, year-run, month-run}
+use Rattle.days.specs.RisingLabels.{Run, year-run, month-run, no-earlier-year}
 use Rattle.days.specs.RisingSpans.{Proper}
 use Rattle.days.specs.RisingTimelines.{rising-rises, timeline-proper, timeline-most}
 
@@ -23,7 +23,7 @@ lower {l} {m} h k (by-year g) e = absurd (<ℤ-irrefl (subst (λ (z : ℤ). z <�
 lower h k (by-month f g) e = omega arith
 lower h k (by-day f g i) e = omega arith
 
-one-more : (n : ℤ) (k : ℕ) → n -ℤ pos (suc k) ≡ (n -ℤ pos k) -ℤ pos 1
+pub one-more : (n : ℤ) (k : ℕ) → n -ℤ pos (suc k) ≡ (n -ℤ pos k) -ℤ pos 1
 one-more n k = ap (λ (z : ℤ). n +ℤ z) (down k) ∙ +ℤ-predℤ n (negℤ (pos k)) ∙ sym (-ℤ-one (n -ℤ pos k))
   where
     down : (k : ℕ) → negsuc k ≡ predℤ (negℤ (pos k))
@@ -66,6 +66,18 @@ module _ {f : ℤ → Label} (up : Rises f) (proper : (n : ℤ) → Proper (f n)
 same-or-not : (a b : ℤ) → (a ≡ b) ⊎ (a ≡ b → ⊥)
 same-or-not a b = ⊎-elim (λ h. inr (λ e. <ℤ-irrefl (subst (λ (z : ℤ). z <ℤ b) e h)))
     (λ h. ⊎-elim (λ k. inr (λ e. <ℤ-irrefl (subst (λ (z : ℤ). b <ℤ z) e k))) (λ k. inl (antisym k h)) (lt-or-ge b a)) (lt-or-ge a b)
+
+-- the year falls, going back
+module _ {f : ℤ → Label} (up : Rises f) (proper : (n : ℤ) → Proper (f n)) (most : (n : ℤ) → f n .day ≤ 31) (n : ℤ) where
+  not-of-year : f (n -ℤ pos 400) .year ≡ f n .year → ⊥
+  unfolding height
+  not-of-year e =
+      let h : height (f (n -ℤ pos 400)) + 400 ≤ height (f n) =
+      few up proper most {P = λ d. f d .year ≡ f n .year} (year-run up (f n .year)) (λ d. same-or-not (f d .year) (f n .year)) n refl (λ a p. p) 400 e in
+      omega (arith, h, proper (n -ℤ pos 400) .0, proper n .1, most n)
+
+  pub year-falls : (f (n -ℤ pos 400) .year) <ℤ (f n .year)
+  year-falls = ⊎-elim (λ h. h) (λ h. absurd (not-of-year (antisym (no-earlier-year up (back-le n 400)) h))) (lt-or-ge (f (n -ℤ pos 400) .year) (f n .year))
 
 module _ {t : Timeline} (r : Rising t) (n : ℤ) where
   of-year-or-not : (d : ℤ) → (labelsIn t d .year ≡ labelsIn t n .year) ⊎ (labelsIn t d .year ≡ labelsIn t n .year → ⊥)

@@ -1,16 +1,17 @@
 -- Any timeline that rises: its labels rise, and so all that `RisingLabels` and `RisingSpans` show of labellings that rise holds of it. They are of a month
 -- 1 to 12 and a day 1 to 31. A skipped label is on no day, and skipped at one switch.
 -- Assumes nothing.
-use mathlib.Core.Path.{_≡_, refl, sym, _∙_, ap, subst}
+use mathlib.Core.Path.{_≡_, refl, sym, _∙_, ap, subst, subst₂}
 use mathlib.Core.Bool.{Bool, true, false, cond}
 use mathlib.Core.List.{List, [], _∷_}
 use mathlib.Core.Logic.{_⊎_, inl, inr, ⊎-elim}
 use Prim.Native.Nat.{ℕ, zero, suc, _≤_}
+use native.Mathlib.Omega.{arith}
 use lib.Dec.{T}
-use lib.IntN.{ℤ, pos, sucℤ, _+ℤ_, _-ℤ_, +ℤ-idr, +ℤ-sucℤ, -ℤ-one, pred-suc}
+use lib.IntN.{ℤ, pos, negsuc, sucℤ, _+ℤ_, _-ℤ_, +ℤ-idr, +ℤ-sucℤ, sucℤ-+ℤ, -ℤ-one, pred-suc}
 use lib.Signed.{ltZ, _<ℤ_, _≤ℤ_, clashℤ}
 use Rattle.whole.specs.Integers.{lt-or-ge, lt-suc, lt-trans, suc-le, antisym, steps, back-one}
-use Rattle.days.specs.DayByDay.{Label, labelOf, julian, gregorian, _≺_, splice, Counts, JulianLabels, GregorianLabels, counted, Era, Switch, Timeline, eraFrom, era, labelsIn, styleIn, SwitchDay, this, later, SkippedIn, Rising, Rises, Borne}
+use Rattle.days.specs.DayByDay.{Label, label, labelOf, julian, gregorian, _≺_, splice, Counts, JulianBy, GregorianBy, Thirtieth, moved, counted, Era, Switch, Timeline, eraFrom, era, labelsIn, styleIn, SwitchDay, this, later, SkippedIn, Rising, Rises, Borne}
 use Rattle.days.specs.LabelOrder.{≺-trans}
 use Rattle.days.specs.RisingLabels.{up-back, between-nowhere}
 use Rattle.days.specs.RisingSpans.{Proper}
@@ -45,14 +46,6 @@ module _ (e : Era) (s : Switch) (l : List Switch) {n : ℤ} where
 pub in-era : (t : Timeline) (n : ℤ) {e : Era} → era t n ≡ e → (labelsIn t n ≡ counted (e .counts) n) × (styleIn t n ≡ e .style)
 in-era t n e = (ap (λ (x : Era). counted (x .counts) n) e, ap (λ (x : Era). x .style) e)
 
--- so the label is the Julian or the Gregorian one
-pub either-reckoning : (t : Timeline) (n : ℤ) → (labelsIn t n ≡ labelOf julian n) ⊎ (labelsIn t n ≡ labelOf gregorian n)
-either-reckoning t n = by (era t n .counts)
-  where
-    by : (w : Counts) → (counted w n ≡ labelOf julian n) ⊎ (counted w n ≡ labelOf gregorian n)
-    by JulianLabels = inl refl
-    by GregorianLabels = inr refl
-
 -- from day n to the next there is a switch, or the era goes on
 goes : (e : Era) (l : List Switch) (n : ℤ) → SwitchDay l (sucℤ n) ⊎ (eraFrom e l n ≡ eraFrom e l (sucℤ n))
 goes e [] n = inr refl
@@ -64,11 +57,29 @@ goes e (s ∷ l) n = ⊎-elim
     (lt-or-ge n (s .on)))
     (lt-or-ge (sucℤ n) (s .on))
 
--- ---- The labels rise: within an era, and over each switch
-counted-rises : (w : Counts) → Rises (counted w)
-counted-rises JulianLabels = julian-rises
-counted-rises GregorianLabels = gregorian-rises
+-- ---- What counts goes on rising, but for a 30 February
+pub moved-is : (k : ℤ) (f : ℤ → Label) (n : ℤ) → moved k f n ≡ f (n +ℤ k)
+moved-is (pos zero) f n = ap f (sym (+ℤ-idr n))
+moved-is (pos (suc k)) f n = refl
+moved-is (negsuc k) f n = refl
 
+moved-up : {f : ℤ → Label} → Rises f → (k n : ℤ) → moved k f n ≺ moved k f (sucℤ n)
+moved-up {f} up k n = subst₂ _≺_ (sym (moved-is k f n)) (sym (moved-is k f (sucℤ n)))
+    (up (n +ℤ k) (sucℤ n +ℤ k) (subst (λ (z : ℤ). (n +ℤ k) <ℤ z) (sym (sucℤ-+ℤ n k)) (lt-suc (n +ℤ k))))
+
+counted-up : {A : Type 0} (w : Counts) (n : ℤ) → ((y : ℤ) → w ≡ Thirtieth y → A) → A ⊎ (counted w n ≺ counted w (sucℤ n))
+counted-up (JulianBy k) n a = inr (moved-up julian-rises k n)
+counted-up (GregorianBy k) n a = inr (moved-up gregorian-rises k n)
+counted-up (Thirtieth y) n a = inl (a y refl)
+
+-- the two reckonings are no 30 February
+pub julian-lasts : {k y : ℤ} → JulianBy k ≡ Thirtieth y → ⊥
+julian-lasts e = let z : _≡_ {A = ℕ} 0 1 = cc in omega arith
+
+pub gregorian-lasts : {k y : ℤ} → GregorianBy k ≡ Thirtieth y → ⊥
+gregorian-lasts e = let z : _≡_ {A = ℕ} 0 1 = cc in omega arith
+
+-- ---- The labels rise: within an era, and over each switch
 rises-on : {f : ℤ → Label} → ((n : ℤ) → f n ≺ f (sucℤ n)) → (a : ℤ) (k : ℕ) → f a ≺ f (a +ℤ pos (suc k))
 rises-on {f} up a zero = subst (λ (z : ℤ). f a ≺ f z) (sym (+ℤ-sucℤ a (pos zero) ∙ ap sucℤ (+ℤ-idr a))) (up a)
 rises-on {f} up a (suc k) = subst (λ (z : ℤ). f a ≺ f z) (sym (+ℤ-sucℤ a (pos (suc k)))) (≺-trans (rises-on up a k) (up (a +ℤ pos (suc k))))
@@ -76,25 +87,30 @@ rises-on {f} up a (suc k) = subst (λ (z : ℤ). f a ≺ f z) (sym (+ℤ-sucℤ 
 pub rises-by-steps : {f : ℤ → Label} → ((n : ℤ) → f n ≺ f (sucℤ n)) → Rises f
 rises-by-steps {f} up a b h = let (k, e) = steps h in subst (λ (z : ℤ). f a ≺ f z) (sym e) (rises-on up a k)
 
-pub switches-rise : (t : Timeline) → ((d : ℤ) → SwitchDay (t .switches) d → labelsIn t (d -ℤ pos 1) ≺ labelsIn t d) → Rises (labelsIn t)
-switches-rise t over = rises-by-steps (λ n. ⊎-elim
-    (λ d. subst (λ (z : ℤ). labelsIn t z ≺ labelsIn t (sucℤ n)) (-ℤ-one (sucℤ n) ∙ pred-suc n) (over (sucℤ n) d))
-    (λ e. subst (λ (x : Era). labelsIn t n ≺ counted (x .counts) (sucℤ n)) e (counted-rises (era t n .counts) n (sucℤ n) (lt-suc n)))
+pub switches-rise : (t : Timeline) → ((n y : ℤ) → era t n .counts ≡ Thirtieth y → SwitchDay (t .switches) (sucℤ n))
+    → ((d : ℤ) → SwitchDay (t .switches) d → labelsIn t (d -ℤ pos 1) ≺ labelsIn t d) → Rises (labelsIn t)
+switches-rise t one over = rises-by-steps (λ n. ⊎-elim (step n)
+    (λ e. ⊎-elim (step n) (λ u. subst (λ (x : Era). labelsIn t n ≺ counted (x .counts) (sucℤ n)) e u)
+    (counted-up {A = SwitchDay (t .switches) (sucℤ n)} (era t n .counts) n (one n)))
     (goes (t .before) (t .switches) n))
+  where
+    step : (n : ℤ) → SwitchDay (t .switches) (sucℤ n) → labelsIn t n ≺ labelsIn t (sucℤ n)
+    step n d = subst (λ (z : ℤ). labelsIn t z ≺ labelsIn t (sucℤ n)) (-ℤ-one (sucℤ n) ∙ pred-suc n) (over (sucℤ n) d)
 
 pub rising-rises : {t : Timeline} → Rising t → Rises (labelsIn t)
-rising-rises {t} r = switches-rise t (r .first-later)
+rising-rises {t} r = switches-rise t (r .one-day) (r .first-later)
 
 -- ---- Every label is of a month 1 to 12 and a day 1 to 31, in every timeline
-counted-all : (P : Label → Type 0) → ((n : ℤ) → P (labelOf julian n)) → ((n : ℤ) → P (labelOf gregorian n)) → (w : Counts) (n : ℤ) → P (counted w n)
-counted-all P p q JulianLabels = p
-counted-all P p q GregorianLabels = q
+counted-all : (P : Label → Type 0) → ((n : ℤ) → P (labelOf julian n)) → ((n : ℤ) → P (labelOf gregorian n)) → ((y : ℤ) → P (label y 2 30)) → (w : Counts) (n : ℤ) → P (counted w n)
+counted-all P p q r (JulianBy k) n = subst P (sym (moved-is k (labelOf julian) n)) (p (n +ℤ k))
+counted-all P p q r (GregorianBy k) n = subst P (sym (moved-is k (labelOf gregorian) n)) (q (n +ℤ k))
+counted-all P p q r (Thirtieth y) n = r y
 
 pub timeline-proper : (t : Timeline) (n : ℤ) → Proper (labelsIn t n)
-timeline-proper t n = counted-all Proper julian-proper gregorian-proper (era t n .counts) n
+timeline-proper t n = counted-all Proper julian-proper gregorian-proper (λ y. (omega arith, omega arith, omega arith)) (era t n .counts) n
 
 pub timeline-most : (t : Timeline) (n : ℤ) → labelsIn t n .day ≤ 31
-timeline-most t n = counted-all (λ (l : Label). l .day ≤ 31) julian-most gregorian-most (era t n .counts) n
+timeline-most t n = counted-all (λ (l : Label). l .day ≤ 31) julian-most gregorian-most (λ y. omega arith) (era t n .counts) n
 
 -- ---- Skipped labels
 module _ {t : Timeline} {l : Label} (r : Rising t) where

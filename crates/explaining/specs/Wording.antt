@@ -48,6 +48,8 @@ acceptedPattern Style′.Julian true = bytes "~ in @ is #-#-#, day #. The Julian
 acceptedPattern Style′.Julian false = bytes "~ in @ is #-#-#, day #. The Julian rule applied, and # is no leap year under that rule.\n"
 acceptedPattern Style′.Gregorian true = bytes "~ in @ is #-#-#, day #. The Gregorian rule applied, and # is a leap year under that rule.\n"
 acceptedPattern Style′.Gregorian false = bytes "~ in @ is #-#-#, day #. The Gregorian rule applied, and # is no leap year under that rule.\n"
+acceptedPattern Style′.Swedish true = bytes "~ in @ is #-#-#, day #. The Julian rule applied, and # is a leap year under that rule.\n"
+acceptedPattern Style′.Swedish false = bytes "~ in @ is #-#-#, day #. The Julian rule applied, and # is no leap year under that rule.\n"
 
 unfoldable pub madeUpPattern : List ℕ
 madeUpPattern = bytes "~ was not read: the calendar @ was made up.\n"

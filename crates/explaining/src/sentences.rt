@@ -82,6 +82,12 @@ fn put_rule(
             }
             say(out, at, &GREGORIAN, numbers, name, text)
         }
+        Style::Swedish => {
+            if leap {
+                return say(out, at, &JULIAN_LEAP, numbers, name, text);
+            }
+            say(out, at, &JULIAN, numbers, name, text)
+        }
     }
 }
 

@@ -8,8 +8,7 @@ use borrow.Author.Tests.{lt-ltb, le-ltb}
 use lib.IntN.{ℤ}
 use Rattle.whole.specs.Tests.{lt-or-ge}
 use Rattle.whole.specs.Integers.{unbias-le}
-use Rattle.days.specs.DayByDay as D
-use Rattle.days.specs.DayByDay.{Label, label, labelOf, julian, gregorian, _≺_, Borne, AcceptedReformation, reforming-accepted, SwitchDay, this, later}
+use Rattle.days.specs.DayByDay.{Label, label, labelOf, julian, gregorian, _≺_, Borne, AcceptedReformation}
 use Rattle.days.specs.LabelOrder.{≺-irrefl}
 use Rattle.days.specs.RisingLabels.{no-later}
 use Rattle.days.specs.BiasedDays.{dayBias, day, year}
@@ -18,7 +17,6 @@ use Rattle.days.specs.ClosedJulian as J
 use Rattle.days.specs.ClosedGregorian as G
 use Rattle.days.specs.ClosedNumbers.{There, number, numbered, there}
 use Rattle.days.specs.ClosedRuns.{julianMonth}
-use Rattle.days.specs.AcceptedCalendars.{no-switch}
 use Rattle.days.specs.ReformationTable.{there-too}
 use Rattle.calendar.specs.declared.Calendar.{Calendar}
 use Rattle.calendar.specs.Calendars.{labels}
@@ -52,13 +50,6 @@ module _ (s : MonthSpan) (w : AllInside s) where
       record { from = w a h g .new k .0; to = omega arith; few = omega (arith, i .new (omega arith)); room = i .room }
 
 -- ---- The runs
-
--- an accepted calendar switches on an accepted day
-switches-accepted : {c : D.Calendar} {d : ℤ} → D.Accepted c → SwitchDay (D.timeline c .switches) d → AcceptedReformation d
-switches-accepted D.julian-accepted s = absurd (no-switch s)
-switches-accepted D.gregorian-accepted s = absurd (no-switch s)
-switches-accepted (reforming-accepted a) this = a
-switches-accepted (reforming-accepted a) (later s) = absurd (no-switch s)
 
 module _ (c : Calendar) {z : ℤ} {m : ℕ} (s : MonthSpan) (p : SpanOf c z m s) where
   pub all-inside : AllInside s
@@ -101,7 +92,7 @@ module _ (c : Calendar) {z : ℤ} {m : ℕ} (s : MonthSpan) (p : SpanOf c z m s)
     left-out = ⊎-elim (λ k. k) (λ k. absurd (never k)) (lt-or-ge (s .gregorian) (s .first))
       where
         accepted : AcceptedReformation (day (s .switch))
-        accepted = switches-accepted (p .runs .accepted) (p .runs .switches (omega arith) (omega (arith, span-room c s p)))
+        accepted = p .runs .reforms (omega arith) (omega (arith, span-room c s p))
 
         year-label : label z m e ≡ label (year (p .y)) m e
         year-label = ap (λ (z : ℤ). label z m e) (sym (p .year-is))

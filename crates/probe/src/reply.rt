@@ -115,14 +115,16 @@ pub fn julian_bit(date: Date) -> u32 {
     match own {
         Style::Julian => 1,
         Style::Gregorian => 0,
+        Style::Swedish => 0,
     }
 }
 
-// The style that stands in a record: J for the Julian one, G for the Gregorian one.
+// The style that stands in a record: J for the Julian one, G for the Gregorian one, S for the Swedish one.
 pub fn style_letter(style: Style) -> u8 {
     match style {
         Style::Julian => b'J',
         Style::Gregorian => b'G',
+        Style::Swedish => b'S',
     }
 }
 
@@ -136,6 +138,9 @@ fn style(date: Date) -> u8 {
         return letter;
     }
     if letter == b'G' && julian == 0 && gregorian == 1 {
+        return letter;
+    }
+    if letter == b'S' && julian == 0 && gregorian == 0 {
         return letter;
     }
     b'?'

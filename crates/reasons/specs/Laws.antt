@@ -19,7 +19,7 @@ use Rattle.refusals.specs.Promise.{refusal}
 use Rattle.days.specs.DayByDay.{Label, label, Timeline, Is32Bit, SwitchDay, this, later, MissingIn, Month}
 use Rattle.days.specs.AcceptedCalendars.{accepted-rises, no-switch}
 use Rattle.days.specs.RisingLabels.{no-earlier-year, days-one}
-use Rattle.days.specs.RisingTimelines.{either-reckoning}
+use Rattle.days.specs.AcceptedYears.{least-label, greatest-label}
 use Rattle.days.specs.KnownDays.{known-days}
 use Rattle.calendar.specs.declared.Calendar.{Calendar}
 use Rattle.calendar.specs.declared.Calendar.the-variants as Calendar′
@@ -29,7 +29,7 @@ use Rattle.calendar.specs.declared.Dated.the-variants as Dated′
 use Rattle.calendar.specs.declared.ReformDate.{ReformDate}
 use Rattle.calendar.specs.declared.ReformDate.the-variants as ReformDate′
 use Rattle.calendar.specs.declared.Counted.the-variants as Counted′
-use Rattle.calendar.specs.Calendars.{timeline, labels, Accepted, IsRecordIn, IsRecord, Skipped}
+use Rattle.calendar.specs.Calendars.{definitionOf, timeline, labels, Accepted, IsRecordIn, IsRecord, Skipped}
 use Rattle.calendar.specs.Rows.{Unless, refuses, passes}
 use Rattle.calendar.specs.Promise.{made-up, RecordOfIn, record-of, AtYmd, on-label, AtOrdinal, on-ordinal, OffYear, LastJulian, FirstGregorian, ReformRecord, reform-record, never-julian, never-gregorian}
 use Rattle.months.specs.Promise.{number, YearLengthOf}
@@ -64,7 +64,7 @@ module _ (c : Calendar) (a : Accepted c) (n : ℤ) where
       greatest = ⊎-elim
           (λ e. subst (λ (y : ℤ). pos 0 ≤ℤ y) (sym (year-is (e ∙ known-days .greatest-julian .0))) (leZ-yes tt))
           (λ e. subst (λ (y : ℤ). pos 0 ≤ℤ y) (sym (year-is (e ∙ known-days .greatest-gregorian .0))) (leZ-yes tt))
-          (either-reckoning (timeline c) (pos 2_147_483_647))
+          (greatest-label (definitionOf c))
 
   early-year : n <ℤ negsuc 2_147_483_647 → (labels c n .year) ≤ℤ negsuc 0
   early-year h = le-trans (no-earlier-year (accepted-rises a) (lt-le h)) least
@@ -73,7 +73,7 @@ module _ (c : Calendar) (a : Accepted c) (n : ℤ) where
       least = ⊎-elim
           (λ e. subst (λ (y : ℤ). y ≤ℤ negsuc 0) (sym (year-is (e ∙ known-days .least-julian .0))) (leZ-yes tt))
           (λ e. subst (λ (y : ℤ). y ≤ℤ negsuc 0) (sym (year-is (e ∙ known-days .least-gregorian .0))) (leZ-yes tt))
-          (either-reckoning (timeline c) (negsuc 2_147_483_647))
+          (least-label (definitionOf c))
 
   end-passed : (y : ℤ) → labels c n .year ≡ y → ¬ Is32Bit n → Passes (not (isNegative y)) n
   end-passed (pos y) e out = ⊎-elim (λ h. h) (λ h. absurd (out (fits-between (not-early h) h))) (lt-or-ge (pos 2_147_483_647) n)

@@ -34,6 +34,7 @@ use Rattle.reasons.specs.declared.Reason.the-variants as Reason′
 abbrev pub ruleOf : Style → LeapRule
 ruleOf Style′.Julian = julianLeap
 ruleOf Style′.Gregorian = gregorianLeap
+ruleOf Style′.Swedish = julianLeap
 
 -- the day n lies above the 32-bit days, or below them
 abbrev pub Passes : Bool → ℤ → Type 0

@@ -236,6 +236,7 @@ fn is_leap(style: Style, year: i32) -> bool
     match style {
         Style::Julian => old,
         Style::Gregorian => new,
+        Style::Swedish => old,
     }
 }
 

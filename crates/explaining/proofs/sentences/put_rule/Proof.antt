@@ -56,19 +56,50 @@ say-requires-4 : tie.Need-say-requires-4
 unfolding cost
 say-requires-4 c κs = (c .before .before .before .before .before .before .before .before .pre, lit≤ tt)
 
+enum-told-3 : tie.Need-enum-told-3
+enum-told-3 c = search needs
+
+slice-aggregate-say-5 : tie.Need-slice-aggregate-say-5
+slice-aggregate-say-5 c = search needs
+
+say-requires-5 : tie.Need-say-requires-5
+unfolding cost
+say-requires-5 c κs = (c .before .before .before .before .before .before .before .before .pre, lit≤ tt)
+
 same-length-3 : tie.Need-same-length-3
 same-length-3 c = search needs
 
 returns-3 : tie.Need-returns-3
 unfolding acceptedPattern bytes
-returns-3 c = rw (c .before .before .before .before .before .before .enum-told .given .1, c .before .before .before .before .before .if1 .left) (c .before .before .say2 .ensures)
+returns-3 c = rw (c .before .before .before .before .before .before .enum-told3 .given .1, c .before .before .before .before .before .if3 .taken) (c .before .before .say5 .ensures)
+
+slice-aggregate-say-6 : tie.Need-slice-aggregate-say-6
+slice-aggregate-say-6 c = search needs
+
+say-requires-6 : tie.Need-say-requires-6
+unfolding cost
+say-requires-6 c κs = (c .before .before .before .before .before .before .before .before .pre, lit≤ tt)
 
 same-length-4 : tie.Need-same-length-4
 same-length-4 c = search needs
 
 returns-4 : tie.Need-returns-4
 unfolding acceptedPattern bytes
-returns-4 c = rw (c .before .before .before .before .before .before .enum-told2 .given .1, c .before .before .before .before .before .if2 .left) (c .before .before .say4 .ensures)
+returns-4 c = rw (c .before .before .before .before .before .before .enum-told .given .1, c .before .before .before .before .before .if1 .left) (c .before .before .say2 .ensures)
+
+same-length-5 : tie.Need-same-length-5
+same-length-5 c = search needs
+
+returns-5 : tie.Need-returns-5
+unfolding acceptedPattern bytes
+returns-5 c = rw (c .before .before .before .before .before .before .enum-told2 .given .1, c .before .before .before .before .before .if2 .left) (c .before .before .say4 .ensures)
+
+same-length-6 : tie.Need-same-length-6
+same-length-6 c = search needs
+
+returns-6 : tie.Need-returns-6
+unfolding acceptedPattern bytes
+returns-6 c = rw (c .before .before .before .before .before .before .enum-told3 .given .1, c .before .before .before .before .before .if3 .left) (c .before .before .say6 .ensures)
 
 pub put-rule-spec : {M : Type 1} → statement M
 put-rule-spec =
@@ -88,7 +119,16 @@ put-rule-spec =
     returns-2
     slice-aggregate-say-4
     say-requires-4
+    enum-told-3
+    slice-aggregate-say-5
+    say-requires-5
     same-length-3
     returns-3
+    slice-aggregate-say-6
+    say-requires-6
     same-length-4
-    returns-4)
+    returns-4
+    same-length-5
+    returns-5
+    same-length-6
+    returns-6)
