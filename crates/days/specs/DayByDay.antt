@@ -178,7 +178,7 @@ pub data Calendar : Type 0 where
 
 -- reforming at r, days below r have their Julian label, days from r on their Gregorian one (shown in `AcceptedCalendars`: `reforming-labels`).
 -- Sweden: after 28 February 1700 came 1 March, one day ahead of the Julian count; 1712 had a 30 February, and 1 March 1712 was Julian again;
--- 17 February 1753 was followed by 1 March, Gregorian
+-- 17 February 1753 was followed by 1 March, Gregorian (shown in `KnownDays`: `swedish-days`)
 abbrev pub timeline : Calendar → Timeline
 timeline Julian = record { before = julianEra; switches = [] }
 timeline Gregorian = record { before = gregorianEra; switches = [] }

@@ -7,7 +7,7 @@ use lib.Dec.{T, leb, ltb}
 use lib.IntN.{ℤ, pos, negsuc}
 use mathlib.Core.Bool.{Bool, _&&_}
 use mir.Facts.{and-yes, leb-yes, ltb-yes}
-use Rattle.days.specs.DayByDay.{Label, label, monthLength, Calendar, Julian, Gregorian, Reforming, labels, Ordinal, DayOrdinal, YearLength, Skipped, Missing, weekday, UnixTime}
+use Rattle.days.specs.DayByDay.{Label, label, monthLength, splice, JulianStyle, SwedishStyle, Calendar, Julian, Gregorian, Reforming, Swedish, labels, style, Ordinal, DayOrdinal, YearLength, Skipped, Missing, weekday, UnixTime}
 use Rattle.days.specs.BiasedDays.{day, year, BiasedYear}
 use Rattle.days.specs.ClosedJulian as J
 use Rattle.days.specs.ClosedGregorian as G
@@ -15,6 +15,8 @@ use Rattle.days.specs.ClosedNumbers.{There, number}
 use Rattle.days.specs.ReformationTable.{accepts}
 use Rattle.days.specs.ClosedRuns.{Runs, julian-runs, gregorian-runs, reforming-runs, on-old, on-new, gregorianPast, month-over, in-gap, on-none, ordinal-at, day-ordinal-at, year-stretch, yearFirst, monthFirst}
 use Rattle.days.specs.ClosedWeekdays.{weekday-is}
+use Rattle.days.specs.Swedish as S
+use Rattle.days.specs.SwedishMonths as M
 
 -- ---- The statement
 
@@ -64,6 +66,35 @@ pub record KnownGaps : Type 0 where
   pub missing-1700 : Missing (Reforming (pos 2_342_032)) (label (pos 1700) 2 30)
   -- r = 2361390: 1753-02-17, then 1753-03-01
   pub missing-1753 : Missing (Reforming (pos 2_361_390)) (label (pos 1753) 2 29)
+
+-- Sweden at its four switches
+pub record SwedishDays : Type 0 where
+  -- 1700-02-28, then 1700-03-01
+  pub last-1700 : labels Swedish (pos 2_342_041) ≡ label (pos 1700) 2 28
+  pub first-1700 : labels Swedish (pos 2_342_042) ≡ label (pos 1700) 3 1
+  -- 1712-02-29, 1712-02-30 ordinal 61, 1712-03-01
+  pub before-1712 : labels Swedish (pos 2_346_424) ≡ label (pos 1712) 2 29
+  pub thirtieth-1712 : Dated Swedish (pos 2_346_425) (pos 1712) 2 30 61
+  pub after-1712 : labels Swedish (pos 2_346_426) ≡ label (pos 1712) 3 1
+  -- 1753-02-17, then 1753-03-01
+  pub last-1753 : labels Swedish (pos 2_361_389) ≡ label (pos 1753) 2 17
+  pub first-1753 : labels Swedish (pos 2_361_390) ≡ label (pos 1753) 3 1
+  -- the Swedish style on the days 2342042 to 2346425
+  pub style-before : style Swedish (pos 2_342_041) ≡ JulianStyle
+  pub style-from : style Swedish (pos 2_342_042) ≡ SwedishStyle
+  pub style-to : style Swedish (pos 2_346_425) ≡ SwedishStyle
+  pub style-after : style Swedish (pos 2_346_426) ≡ JulianStyle
+  -- 1700 has 365 days, 1712 has 367, 1753 has 354
+  pub length-1700 : YearLength (labels Swedish) (pos 1700) 365
+  pub length-1712 : YearLength (labels Swedish) (pos 1712) 367
+  pub length-1753 : YearLength (labels Swedish) (pos 1753) 354
+  -- 1700-02-29 and 1753-02-18 to 28 are skipped, and what is neither Julian nor Gregorian is missing
+  pub skipped-1700 : Skipped Swedish (label (pos 1700) 2 29)
+  pub missing-1700 : Missing Swedish (label (pos 1700) 2 30)
+  pub missing-1712 : Missing Swedish (label (pos 1712) 2 31)
+  pub skipped-first-1753 : Skipped Swedish (label (pos 1753) 2 18)
+  pub skipped-last-1753 : Skipped Swedish (label (pos 1753) 2 28)
+  pub missing-1753 : Missing Swedish (label (pos 1753) 2 29)
 
 -- three days that have names, by their Gregorian dates: the first of the reformed calendar, day 0 of Unix time, and the day before year 1
 pub record NamedDays (reform1582 unixEpoch rataDieZero : ℤ) : Type 0 where
@@ -157,6 +188,32 @@ known-gaps =
       skipped-1700 = taken-away (reforming 784_369_151_974 tt tt) 2_147_485_700 2 29 tt tt tt;
       missing-1700 = in-neither (reforming 784_369_151_974 tt tt) 2_147_485_700 2 30 tt tt (λ (h, k, g, l). omega arith) (λ (h, k, g, l). omega arith);
       missing-1753 = in-neither (reforming 784_369_171_332 tt tt) 2_147_485_753 2 29 tt tt (λ (h, k, g, l). omega arith) (λ (h, k, g, l). omega arith);
+    }
+
+pub swedish-days : SwedishDays
+unfolding splice
+swedish-days =
+    record {
+      last-1700 = S.last-before-1700;
+      first-1700 = S.first-moved;
+      before-1712 = S.last-moved;
+      thirtieth-1712 = (S.thirtieth, M.ordinal-of-the-thirtieth);
+      after-1712 = S.first-julian-again;
+      last-1753 = S.last-julian-1753;
+      first-1753 = S.first-gregorian-1753;
+      style-before = refl;
+      style-from = refl;
+      style-to = refl;
+      style-after = refl;
+      length-1700 = M.length-1700;
+      length-1712 = M.length-1712;
+      length-1753 = M.length-1753;
+      skipped-1700 = M.swedish-skips M.in-1700;
+      missing-1700 = M.missing-1700;
+      missing-1712 = M.missing-1712;
+      skipped-first-1753 = M.swedish-skips (M.in-1753 {d = 18} (omega arith) (omega arith));
+      skipped-last-1753 = M.swedish-skips (M.in-1753 {d = 28} (omega arith) (omega arith));
+      missing-1753 = M.missing-1753;
     }
 
 pub named-days : NamedDays (pos 2_299_161) (pos 2_440_588) (pos 1_721_425)

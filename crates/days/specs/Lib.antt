@@ -35,5 +35,6 @@ pub mod AcceptedCalendars
 pub mod AcceptedYears
 -- Which labels can be skipped.
 pub mod SkippedLabels
--- The Swedish calendar: that it rises.
+-- The Swedish calendar: that it rises, and its months.
 pub mod Swedish
+pub mod SwedishMonths
