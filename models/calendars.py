@@ -1,78 +1,31 @@
 """The calendars, the answers and the text of a date, from the scope alone: what the models in this folder share.
 
-The calendars go day by day: each cycle of labels is stepped through once from its anchor, and later cycles repeat it. Ordinals are
-counted by walking back day by day. The text is read by the grammar's words, left to right. Nothing here is taken from the port.
-A calendar is 'J', 'G' or the day of a reformation.
+The calendars go day by day, as timelines.py has them. Ordinals are counted by walking back day by day. The text is read by the grammar's words, left
+to right. Nothing here is taken from the port. A calendar is 'J', 'G', the day of a reformation, or 'S', the Swedish one.
 """
+import functools
 import re
 
-LOW, HIGH = -2**31, 2**31 - 1
+from reckonings import *
+import timelines
 
 
 # ---- the calendars, day by day
 
-def julian_leap(y):
-    return y % 4 == 0
+TIMELINES = {'J': timelines.JULIAN, 'G': timelines.GREGORIAN, 'S': timelines.SWEDISH}
 
 
-def gregorian_leap(y):
-    return y % 4 == 0 and (y % 100 != 0 or y % 400 == 0)
-
-
-def month_days(leap, m):
-    return [31, 29 if leap else 28, 31, 30, 31, 30, 31, 31, 30, 31, 30, 31][m - 1]
-
-
-class Reckoning:
-    """The labels of every day: `anchor` has label 1 January of year `year` or another given one, and each next day the next label."""
-
-    def __init__(self, leap, years, anchor, label):
-        self.leap, self.years, self.anchor = leap, years, anchor
-        self.cycle = []
-        y, m, d = label
-        first = label
-        while True:
-            self.cycle.append((y, m, d))
-            if d < month_days(leap(y), m):
-                d += 1
-            elif m < 12:
-                m, d = m + 1, 1
-            else:
-                y, m, d = y + 1, 1, 1
-            if (y, m, d) == (first[0] + years, first[1], first[2]):
-                break
-        self.place = {label: i for i, label in enumerate(self.cycle)}
-
-    def label(self, n):
-        turns, i = divmod(n - self.anchor, len(self.cycle))
-        y, m, d = self.cycle[i]
-        return (y + turns * self.years, m, d)
-
-    def day(self, label):
-        """The day that bears the label, or None."""
-        y, m, d = label
-        lowest = self.cycle[0][0]
-        for year in (lowest + (y - lowest) % self.years, lowest + self.years):
-            i = self.place.get((year, m, d))
-            if i is not None and (y - year) % self.years == 0:
-                return self.anchor + i + (y - year) // self.years * len(self.cycle)
-        return None
-
-
-J = Reckoning(julian_leap, 4, 0, (-4712, 1, 1))
-G = Reckoning(gregorian_leap, 400, 2299161, (1582, 10, 15))
+@functools.lru_cache(maxsize=None)
+def timeline(c):
+    return TIMELINES[c] if c in TIMELINES else timelines.reforming(c)
 
 
 def label(c, n):
-    if c == 'J':
-        return J.label(n)
-    if c == 'G':
-        return G.label(n)
-    return J.label(n) if n < c else G.label(n)
+    return timeline(c).label(n)
 
 
 def accepted(c):
-    return c in ('J', 'G') or 1830692 <= c <= 2147439588
+    return c in TIMELINES or 1830692 <= c <= 2147439588
 
 
 FIRST = {}
@@ -90,10 +43,8 @@ def first_with(c, n, parts):
 
 
 def style(c, n):
-    """J on days with their Julian label, G on days with their Gregorian one."""
-    if c in ('J', 'G'):
-        return c
-    return 'J' if n < c else 'G'
+    """J on days with their Julian label, G on days with their Gregorian one, S on the Swedish days."""
+    return timeline(c).style(n)
 
 
 def record(c, n):
@@ -104,29 +55,21 @@ def record(c, n):
 
 def bearer(c, lab):
     """The day of the unbounded calendar that bears the label, or None."""
-    days = [r.day(lab) for r in (J, G)]
-    for n in days:
-        if n is not None and label(c, n) == lab:
-            return n
-    return None
+    return timeline(c).bearer(lab)
 
 
 def skipped(c, lab):
-    """Strictly between the last Julian and the first Gregorian label, and valid in the Julian or the Gregorian calendar."""
-    if c in ('J', 'G') or (J.day(lab) is None and G.day(lab) is None):
-        return False
-    return J.label(c - 1) < lab < G.label(c)
+    """Strictly between the labels on both sides of a switch, and valid in the Julian or the Gregorian calendar."""
+    return timeline(c).skipped(lab)
 
 
+@functools.lru_cache(maxsize=None)
 def days_of_year(c, y):
-    """All days of the unbounded calendar with that year: those near the year's start in either reckoning, looked at one by one."""
-    near = set()
-    for r in (J, G):
-        start = r.day((y, 1, 1))
-        near.update(range(start - 1, start + 367))
-    return sorted(n for n in near if label(c, n)[0] == y)
+    """All days of the unbounded calendar with that year."""
+    return timeline(c).days_of_year(y)
 
 
+@functools.lru_cache(maxsize=None)
 def days_of_month(c, y, m):
     return [n for n in days_of_year(c, y) if label(c, n)[1] == m]
 
@@ -143,8 +86,11 @@ UNITED_KINGDOM 1752-09-14, UNITED_STATES 1752-09-14, YUGOSLAVIA 1919-03-18
 """
 
 
+NOT_REFORMING = {b'JULIAN': 'J', b'GREGORIAN': 'G'}  # the 37th name is b'SWEDISH': 'S'
+
+
 def calendars_by_name():
-    names = {b'JULIAN': 'J', b'GREGORIAN': 'G'}
+    names = dict(NOT_REFORMING)
     for entry in FIRST_GREGORIAN.split(','):
         country, date = entry.split()
         names[country.encode()] = G.day(tuple(map(int, date.split('-'))))
