@@ -102,7 +102,7 @@ def faulty(refusal, name, text):
 
 # ---- facts of a calendar
 
-RULES = {'J': ('Julian', julian_leap), 'G': ('Gregorian', gregorian_leap)}
+RULES = {'J': ('Julian', julian_leap), 'G': ('Gregorian', gregorian_leap), 'S': ('Julian', julian_leap)}
 
 
 def runs(numbers):
@@ -148,7 +148,8 @@ def of_refused(number, c, said, name, text):
         y, m = said[:2]
         return sentence('%s is no date in %s: the month %d-%d has %s there', text, name, y, m, month_has(c, y, m))
     if number == 5:
-        return sentence('%s was skipped in %s: %s was followed by %s', text, name, on_day(c, c - 1), on_day(c, c))
+        switch = timeline(c).gap(said[:3])
+        return sentence('%s was skipped in %s: %s was followed by %s', text, name, on_day(c, switch - 1), on_day(c, switch))
     if number == 6:
         length = len(days_of_year(c, said[0]))
         words = '%s is no date in %s: a single number after the year counts its days, and the year %d has %d days there'

@@ -74,14 +74,14 @@ def month_before(y, m):
     return (y, m - 1) if m > 1 else (y - 1, 12)
 
 
-def around_switch(c):
+def around_switch(c, switch):
     """The days on both sides of a switch, labels between them, and the months and years that it cuts or takes away."""
-    before, after = label(c, c - 1), label(c, c)
-    for n in (c - 2, c - 1, c, c + 1):
+    before, after = label(c, switch - 1), label(c, switch)
+    for n in (switch - 2, switch - 1, switch, switch + 1):
         yield from both_ways(c, n)
-    for n in (c, c + 1, c + 5):
+    for n in (switch, switch + 1, switch + 5):
         yield ymd(J.label(n))
-    for n in (c - 1, c - 2, c - 5):
+    for n in (switch - 1, switch - 2, switch - 5):
         yield ymd(G.label(n))
     middle = (before[0] + after[0]) // 2
     for month in dict.fromkeys([before[:2], month_after(*before[:2]), (middle, 2), month_before(*after[:2]), after[:2]]):
@@ -93,8 +93,8 @@ def around_switch(c):
 def in_every_calendar():
     for name, c in CALENDARS.items():
         yield from of(name, ends(c))
-        if c not in ('J', 'G'):
-            yield from of(name, around_switch(c))
+        for switch in timeline(c).switches:
+            yield from of(name, around_switch(c, switch.day))
         yield from of(name, ONE_FAULT)
 
 
@@ -115,7 +115,8 @@ def usual():
     """Some days of each calendar, near its switch and anywhere."""
     dice = random.Random(7)
     for name, c in CALENDARS.items():
-        middle = 2299161 if c in ('J', 'G') else c
+        switches = timeline(c).switches
+        middle = switches[0].day if switches else 2299161
         days = [middle + dice.randrange(-400, 400) for _ in range(3)] + [dice.randrange(LOW, HIGH) for _ in range(2)]
         for n in days:
             yield from of(name, both_ways(c, min(n, HIGH)))

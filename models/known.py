@@ -1,7 +1,8 @@
 #!/usr/bin/env python3
 """The answers of oracle/PROTOCOL.md to the known queries: known.py <crates/probe/stdin
 
-It answers each line up to the heading of the recorded part, and that one too, from the definition of the calendars alone.
+It answers each line up to the heading of the recorded part, and that one too, from the definition of the calendars alone. `S` is the Swedish
+calendar, and its style; in a digest the style counts as 2.
 """
 import sys
 
@@ -15,7 +16,7 @@ WORD = 2**64
 
 def calendar(field):
     """The calendar, and the refusal of its reformation; one that is marked `?` is not looked at."""
-    if field in (b'J', b'G'):
+    if field in (b'J', b'G', b'S'):
         return field.decode(), None
     if field.startswith(b'?'):
         return int(field[1:]), None
@@ -81,12 +82,58 @@ def about_date(key, c, answer, fields):
         return if_genuine(c, rec, rec[1] - 1, rec[4] - 1)
     if key == b'genuine':
         return [int(genuine(c, rec))] + if_genuine(c, rec, n % 7 + 1, int(rec[6] == 'J'), int(rec[6] == 'G'))
+    if key == b'write':
+        return ['%d-%d-%d' % (rec[0], rec[2], rec[3])] if genuine(c, rec) else list(refused(16))
+    if key == b'walk':
+        return walk(c, rec, *map(int, fields))
     if key == b'conv':
         to, fault = calendar(fields[0])
         if fault:
             return list(fault)
         return told(to, on_day(to, n)) if genuine(c, rec) else list(refused(16))
     return view(c, rec, *map(int, fields))
+
+
+# ---- digests: one number for many values
+
+STYLE_VALUES = {'J': 1, 'G': 0, 'S': 2}
+
+
+def digest(values):
+    h = 0
+    for x in values:
+        h = (h * 1000003 + x + 2**33) % 2147483647
+    return h
+
+
+def date_values(answer, *places):
+    """The values of a record, all as they are told or those at some places; or the one that a refused date counts as."""
+    if answer[0] == '!':
+        return [(2 if answer[1] == 7 else 1) - 2**33]
+    values = [STYLE_VALUES.get(x, x) for x in told(None, answer)]
+    return [values[place] for place in places] if places else values
+
+
+def digest_of(answers, *places):
+    return digest(x for answer in answers for x in date_values(answer, *places))
+
+
+def days(c, n, by, count):
+    numbers = [n + k * by for k in range(count) if LOW <= n + k * by <= HIGH]
+    return [digest_of(on_day(c, k) for k in numbers), len(numbers)]
+
+
+def year(c, y):
+    values = [len(days_of_year(c, y))]
+    for m in range(1, 13):
+        values += month_question(b'mon', c, y, m)
+        for d in range(34):
+            values += date_values(on_ymd(c, y, m, d, 0), 0)
+    return [digest(values)]
+
+
+def places(c, y):
+    return [digest_of((on_ordinal(c, y, o, 0) for o in range(371)), 3, 4, 5, 0)]
 
 
 # ---- walkers: from day n the k-th call gives n+k, n-k, n+k-1, n-k+1
@@ -138,6 +185,15 @@ def view(c, rec, count, way):
     return shown(c, walker) + 2 * (told(c, given) + shown(c, after))
 
 
+def walk(c, rec, count, way):
+    walker = (way, rec, ended_when_made(way, rec[5]))
+    given = []
+    for _ in range(count):
+        answer, walker = step(c, walker)
+        given += [answer] if answer[0] == '=' else []
+    return [len(given), digest_of(given)] + (told(c, given[-1]) if given else ['-'])
+
+
 # ---- queries about years and months
 
 def month_question(key, c, y, m, x=None):
@@ -175,9 +231,14 @@ def by_ymd(c, y, m, d):
 def reformation(c):
     if not accepted(c):
         return 5 * refused(16)
-    if c in ('J', 'G'):
-        return [0, 1, '-', '-', '-']
-    return [1, 0, c] + told(c, on_day(c, c - 1)) + told(c, on_day(c, c))
+    reforming = c not in TIMELINES
+    fields = [int(reforming), int(c in ('J', 'G')), c if reforming else '-']
+    for n in (timeline(c).last_of('J'), timeline(c).first_of('G')):
+        fields += ['-'] if n is None else told(c, on_day(c, n))
+    return fields
+
+
+DIGESTS = {b'days': days, b'year': year, b'places': places}
 
 
 def of_calendar(key, fields):
@@ -190,7 +251,7 @@ def of_calendar(key, fields):
         return told(c, parse(c, b'\t'.join(fields[1:])))
     if key == b'unix':
         return unix(c, int(fields[1]))
-    if key in (b'jdn', b'succ', b'pred', b'zero', b'genuine', b'conv', b'view'):
+    if key in (b'jdn', b'succ', b'pred', b'zero', b'genuine', b'conv', b'view', b'write', b'walk'):
         answer, rest = date(c, fields[1:])
         return about_date(key, c, answer, rest)
     x = list(map(int, fields[1:]))
@@ -198,6 +259,8 @@ def of_calendar(key, fields):
         return told(c, by_ymd(c, *x))
     if key == b'ord':
         return told(c, on_ordinal(c, x[0], x[1], 0) if accepted(c) else refused(16))
+    if key in DIGESTS:
+        return DIGESTS[key](c, *x) if accepted(c) else refused(16)
     if key == b'len':
         return [len(days_of_year(c, x[0]))] if accepted(c) else refused(16)
     return month_question(key, c, *x)
@@ -316,7 +379,8 @@ def written(field):
 
 
 def main():
-    for line in sys.stdin.buffer.read().split(b'\n'):
+    lines = sys.stdin.buffer.read().split(b'\n')
+    for line in lines if lines[-1] else lines[:-1]:
         told_line = line if line.startswith(b'#') else b'\t'.join(map(written, answer(line)))
         sys.stdout.buffer.write(told_line + b'\n')
         if line.startswith(RECORDED):

@@ -22,7 +22,7 @@ def columns(told):
     if told[0] == '!':
         return told
     y, ordinal, m, d, _, n, style = told[1:]
-    return (n, y, ordinal, m, d, n % 7 + 1, {'J': 'OS', 'G': 'NS'}[style])
+    return (n, y, ordinal, m, d, n % 7 + 1, {'J': 'OS', 'G': 'NS', 'S': 'SV'}[style])
 
 
 def written(answers):
