@@ -262,12 +262,15 @@ def later_each_day(labels):
 
 
 def same_labels(dice, timeline, first, labels):
-    """Of a rising list: each label of the window has its day, and what is strictly between two days was skipped if the second is a switch."""
+    """Of a rising list: each label of the window has its day, and what is strictly between those of two days is skipped if the second is a switch."""
     switch_days = {s.day for s in timeline.switches}
     assert len(set(labels)) == len(labels)
     for n in switch_days:
         for near in (n - 2, n - 1, n, n + 1):
             assert timeline.bearer(timeline.label(near)) == near
+    for year in {s.counts.year for s in timeline.switches if isinstance(s.counts, February30)}:
+        of_year = [n for n in timeline.days_of_year(year) if first <= n < first + len(labels)]
+        assert of_year == [n for n, (y, _, _) in enumerate(labels, first) if y == year]
     for _ in range(20):
         y, m, d = dice.choice(labels)
         lab = (y, dice.choice([m, 2]), dice.choice([d + 1, 29, 30, 31, dice.randrange(33)]))
@@ -314,9 +317,9 @@ def check_years():
     """The last year of 32 bits on the last day, the first one on the first day, and one year further; a day outside 32 bits may have any year."""
     last, after, first, before = (HIGH, 12, 31), (HIGH + 1, 1, 1), (LOW, 1, 1), (LOW - 1, 12, 31)
     for r in (J, G):
-        for n, lab, fits in [(HIGH, last, True), (HIGH, after, False), (HIGH + 1, after, True)]:
+        for n, lab, fits in [(HIGH, last, True), (HIGH - 1, last, False), (HIGH, after, False), (HIGH + 1, after, True)]:
             assert Timeline([Switch(n, 'S', Moved(r, r.day(lab) - n))]).is_rising() == fits
-        for n, lab, fits in [(LOW, first, True), (LOW, before, False), (LOW - 1, before, True)]:
+        for n, lab, fits in [(LOW, first, True), (LOW + 1, first, False), (LOW, before, False), (LOW - 1, before, True)]:
             assert Timeline([], Era('S', Moved(r, r.day(lab) - n))).is_rising() == fits
         for n, year, fits in [(HIGH, HIGH, True), (HIGH, HIGH + 1, False), (HIGH - 1, HIGH + 1, False), (HIGH + 1, HIGH + 1, True)]:
             march = Moved(r, r.day((year, 3, 1)) - n - 1)
