@@ -11,14 +11,15 @@ use Rattle.whole.specs.Tests as N
 use Rattle.whole.specs.Biased.{unbias-back, unbias-injective}
 use Rattle.refusals.specs.declared.Refusal.{Refusal}
 use Rattle.refusals.specs.Promise.{refusal}
-use Rattle.days.specs.DayByDay.{Label, label, monthLength, Month, Swedish, labels, timeline, OfYear, Place, Ordinal, Missing}
+use Rattle.days.specs.DayByDay.{Label, label, Reckoning, labelOf, monthLength, Month, Swedish, labels, timeline, OfYear, Place, Ordinal, Missing}
 use Rattle.days.specs.BiasedDays.{dayBias, yearBias, day, year, BiasedYear}
 use Rattle.days.specs.RisingTimelines.{timeline-proper, timeline-most}
 use Rattle.days.specs.RisingPlaces.{year-falls}
 use Rattle.days.specs.ReckoningSteps.{month-some}
+use Rattle.days.specs.ClosedStarts.{Starts, InYear}
 use Rattle.days.specs.ClosedJulian as J
 use Rattle.days.specs.ClosedGregorian as G
-use Rattle.days.specs.ClosedNumbers.{number, daysBefore, within-year}
+use Rattle.days.specs.ClosedNumbers.{number, numbered, daysBefore, within-year}
 use Rattle.days.specs.ClosedRuns.{top, julianMonth, gregorianMonth, gregorianPast, first-julian, first-gregorian}
 use Rattle.days.specs.Swedish.{swedish-rises}
 use Rattle.days.specs.SwedishMonths.{SwedishMonth, new-month, swedish-month, swedish-day, swedish-from, swedish-room, swedish-year, swedish-missing, swedish-skips, swedish-skips-only, SwedishGap, in-1700, in-1753}
@@ -27,8 +28,10 @@ use Rattle.switches.specs.declared.Found.the-variants as Found′
 use Rattle.switches.specs.declared.MonthSpan.{MonthSpan}
 use Rattle.switches.specs.Promise as S
 use Rattle.inner.specs.Natural.{biasedYear}
+use Rattle.monthdays.specs.Promise.{MonthDayAt}
+use Rattle.monthdays.specs.Laws.{month-day-in}
 use Rattle.swedish.specs.Promise.{MonthIs, YearSpan, labelAt, Finds, finds-skipped, finds-missing}
-use Rattle.swedish.specs.Private.{Plain, Refuses, in-a-gap, in-none}
+use Rattle.swedish.specs.Private.{Plain, Refuses, in-a-gap, in-none, Labelled}
 
 -- ---- A month in one reckoning
 pub plain-is : {r y m : ℕ} {s : MonthSpan} → S.SpansMonth r y m (Spanned′.Month s) → Plain r y m (s .first) (s .past)
@@ -123,37 +126,37 @@ month-room y m v h {a} {b} s = sum (s .days) (s .past-is) (swedish-from y m (v .
 pub year-is : (y : ℕ) → BiasedYear y → {a b c d : ℕ} → MonthIs y 1 a b → MonthIs y 12 c d → YearSpan y a d
 year-is y h {a} s t = subst (λ (k : ℕ). YearSpan y a k) (sym (t .past-is)) (swedish-year y (h .from) (s .is-month) (t .is-month))
 
+-- ---- The place in its year of a day whose label is known
+module _ (y : ℕ) (h : BiasedYear y) (k : ℕ) {m d : ℕ} (e : labels Swedish (day k) ≡ label (year y) m d) {c b : ℕ} (j : MonthIs y 1 c b) where
+  of-year : OfYear (year y) (labels Swedish (day k))
+  of-year = ap (λ (l : Label). l .year) e
+
+  the-year : (i : ℕ) × YearSpan y c i
+  the-year = let (i, n, t) = swedish-month y 12 (omega arith) (omega arith) in (i + n, swedish-year y (h .from) (j .is-month) t)
+
+  -- the days of a year are few
+  few-days : k < c + 400
+  few-days = ⊎-elim (λ i. i) (λ i. absurd (never i (the-year .1 .here k of-year .1))) (N.lt-or-ge k (c + 400))
+    where
+      never : c + 400 ≤ k → k < the-year .0 → ⊥
+      never i u =
+          let q : OfYear (year y) (labels Swedish (day (k - 400))) = the-year .1 .inside (k - 400) (omega arith) (omega arith) in
+          <ℤ-irrefl (subst₂ _<ℤ_ (ap (λ (z : ℤ). labels Swedish z .year) (unbias-back dayBias k 400 (omega arith)) ∙ q) of-year
+          (year-falls swedish-rises (timeline-proper (timeline Swedish)) (timeline-most (timeline Swedish)) (day k)))
+
+  pub in-year : Ordinal (labels Swedish) (day k) (k + 1 - c) × (c ≤ k) × (k < c + 400)
+  in-year =
+      let p = the-year .1 .here k of-year in
+      (subst (λ (l : Label). Place (λ n. OfYear (l .year) (labels Swedish n)) (day k) (k + 1 - c)) (sym e) (p .2), p .0, few-days)
+
 -- ---- A label
 module _ (y m d : ℕ) (h : BiasedYear y) (v : Month m) {a b : ℕ} (s : MonthIs y m a b) (f : 1 ≤ d) where
   -- of a day of the month
-  module _ (g : a + d - 1 < b) {c e : ℕ} (j : MonthIs y 1 c e) where
-    pub on-day : labels Swedish (day (a + d - 1)) ≡ label (year y) m d
-    on-day = swedish-day y m (v .0) (v .1) (s .is-month) d f (small (s .past-is))
-      where
-        small : {n : ℕ} → b ≡ a + n → d ≤ n
-        small e = omega arith
-
-    of-year : OfYear (year y) (labels Swedish (day (a + d - 1)))
-    of-year = ap (λ (l : Label). l .year) on-day
-
-    the-year : (i : ℕ) × YearSpan y c i
-    the-year = let (i, k, t) = swedish-month y 12 (omega arith) (omega arith) in (i + k, swedish-year y (h .from) (j .is-month) t)
-
-    pub on-ordinal : Ordinal (labels Swedish) (day (a + d - 1)) (a + d - 1 + 1 - c)
-    on-ordinal = subst (λ (l : Label). Place (λ n. OfYear (l .year) (labels Swedish n)) (day (a + d - 1)) (a + d - 1 + 1 - c)) (sym on-day) (the-year .1 .here (a + d - 1) of-year .2)
-
-    pub from-first : c ≤ a + d - 1
-    from-first = the-year .1 .here (a + d - 1) of-year .0
-
-    -- the days of a year are few
-    pub few-days : a + d - 1 < c + 400
-    few-days = ⊎-elim (λ i. i) (λ i. absurd (never (a + d - 1) of-year i (the-year .1 .here (a + d - 1) of-year .1))) (N.lt-or-ge (a + d - 1) (c + 400))
-      where
-        never : (k : ℕ) → OfYear (year y) (labels Swedish (day k)) → c + 400 ≤ k → k < the-year .0 → ⊥
-        never k p i u =
-            let q : OfYear (year y) (labels Swedish (day (k - 400))) = the-year .1 .inside (k - 400) (omega arith) (omega arith) in
-            <ℤ-irrefl (subst₂ _<ℤ_ (ap (λ (z : ℤ). labels Swedish z .year) (unbias-back dayBias k 400 (omega arith)) ∙ q) p
-            (year-falls swedish-rises (timeline-proper (timeline Swedish)) (timeline-most (timeline Swedish)) (day k)))
+  pub on-day : a + d - 1 < b → labels Swedish (day (a + d - 1)) ≡ label (year y) m d
+  on-day g = swedish-day y m (v .0) (v .1) (s .is-month) d f (small (s .past-is))
+    where
+      small : {n : ℕ} → b ≡ a + n → d ≤ n
+      small e = omega arith
 
   -- of none
   pub off-days : b ≤ a + d - 1 → ¬ SwedishGap (label (year y) m d) → Missing Swedish (label (year y) m d)
@@ -206,3 +209,15 @@ module _ (y m d : ℕ) where
 
   pub gap-1753 : m ≡ 2 → y ≡ 2_147_485_753 → 17 < d → d ≤ 28 → Refuses y m d 5
   gap-1753 e f g h = rw (e, f) (in-a-gap (in-1753 g h))
+
+-- ---- The label of a day, by its year and its place there
+pub spot-label : {c : Reckoning} {leapAt : ℕ → Bool} {start : ℕ → ℕ} → Starts c leapAt start → (k y o m d : ℕ) → InYear leapAt start k y o → MonthDayAt (leapAt y) o m d → labelOf c (day k) ≡ label (year y) m d
+spot-label {c} {leapAt} {start} s k y o m d p q =
+    let (v, f, t) = month-day-in (p .from) (p .to) q in
+    ap (λ (n : ℕ). labelOf c (day n)) (sum (start y) (daysBefore (leapAt y) m) (q .day-is) (p .adds) f) ∙ numbered s y m d (v .0, v .1, f, t)
+  where
+    sum : (s b : ℕ) → b + d ≡ o → s + o ≡ k + 1 → 1 ≤ d → k ≡ s + b + d - 1
+    sum s b e f h = omega arith
+
+pub labelled-by : {c : Reckoning} {leapAt : ℕ → Bool} {start : ℕ → ℕ} → Starts c leapAt start → (k i y o : ℕ) {b : Bool} → labels Swedish (day k) ≡ labelOf c (day i) → InYear leapAt start i (biasedYear y) o → b ≡ leapAt (biasedYear y) → Labelled k y o b
+labelled-by s k i y o e p f = record { from = p .from; label-at = λ m d q. e ∙ spot-label s i (biasedYear y) o m d p (subst (λ (b : Bool). MonthDayAt b o m d) f q) }

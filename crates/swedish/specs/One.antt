@@ -5,17 +5,19 @@ use Prim.Native.Nat.{ℕ, _+_, _-_, _<_, _≤_}
 use native.Mathlib.Omega.{arith}
 use Rattle.whole.specs.Biased.{unbias-injective}
 use Rattle.days.specs.DayByDay.{Label, Month, Swedish, labels, Ordinal, swedish-accepted}
-use Rattle.days.specs.BiasedDays.{dayBias, day}
+use Rattle.days.specs.BiasedDays.{dayBias, yearBias, day}
 use Rattle.days.specs.RisingLabels.{once, place-one}
 use Rattle.days.specs.AcceptedCalendars.{skipped-nowhere}
 use Rattle.days.specs.Swedish.{swedish-rises}
 use Rattle.days.specs.SwedishMonths.{swedish-month, swedish-month-one, swedish-some, swedish-day}
+use Rattle.inner.specs.Natural.{biasedYear}
 use Rattle.inner.specs.Spots.{spot}
+use Rattle.inner.specs.declared.Spot.{Spot}
 use Rattle.switches.specs.declared.Spanned.{Spanned}
 use Rattle.switches.specs.declared.Spanned.the-variants as Spanned′
 use Rattle.switches.specs.declared.Found.{Found}
 use Rattle.switches.specs.declared.Found.the-variants as Found′
-use Rattle.swedish.specs.Promise.{MonthIs, SpansMonth, spans-month, no-month, YearSpan, Finds, finds, finds-skipped, finds-missing}
+use Rattle.swedish.specs.Promise.{MonthIs, SpansMonth, spans-month, no-month, YearSpan, Finds, finds, finds-skipped, finds-missing, SpotOn}
 
 pub month-is-one : (y m : ℕ) {a b c d : ℕ} → Month m → MonthIs y m a b → MonthIs y m c d → (a ≡ c) × (b ≡ d)
 month-is-one y m v s t =
@@ -66,3 +68,14 @@ finds-one y m d p q (finds-skipped s) (finds-missing x) = absurd (x .1 s)
 finds-one y m d p q (finds-missing x) (finds {k} e i) = absurd (x .0 (day k, e))
 finds-one y m d p q (finds-missing x) (finds-skipped s) = absurd (x .1 s)
 finds-one y m d p q (finds-missing x) (finds-missing z) = refl
+
+pub spot-on-one : (k : ℕ) (s t : Spot) → SpotOn k s → SpotOn k t → s ≡ t
+spot-on-one k s t p q =
+    let l = sym (p .label-is) ∙ q .label-is in
+    let b : s .biased ≡ t .biased = p .biased-is ∙ sym (q .biased-is) in
+    let y : biasedYear (s .year) ≡ biasedYear (t .year) = unbias-injective yearBias (biasedYear (s .year)) (biasedYear (t .year)) (ap (λ (x : Label). x .year) l) in
+    let u : s .year ≡ t .year = omega arith in
+    let m : s .month ≡ t .month = ap (λ (x : Label). x .month) l in
+    let d : s .day ≡ t .day = ap (λ (x : Label). x .day) l in
+    let o : s .ordinal ≡ t .ordinal = place-one (p .ordinal-is) (q .ordinal-is) in
+    let w : spot (s .biased) (s .year) (s .ordinal) (s .month) (s .day) ≡ spot (t .biased) (t .year) (t .ordinal) (t .month) (t .day) = cc in w

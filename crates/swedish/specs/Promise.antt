@@ -10,6 +10,7 @@ use Rattle.days.specs.RisingSpans.{Stretch}
 use Rattle.days.specs.SwedishMonths.{SwedishMonth}
 use Rattle.inner.specs.Natural.{biasedYear}
 use Rattle.inner.specs.Spots.{spot}
+use Rattle.inner.specs.declared.Spot.{Spot}
 use Rattle.switches.specs.declared.Spanned.{Spanned}
 use Rattle.switches.specs.declared.Spanned.the-variants as Spanned′
 use Rattle.switches.specs.declared.Found.{Found}
@@ -39,3 +40,9 @@ pub data Finds (y m d : ℕ) : Found → Type 0 where
   finds : {k o : ℕ} → labels Swedish (day k) ≡ labelAt y m d → Ordinal (labels Swedish) (day k) o → Finds y m d (Found′.At (spot k y o m d))
   finds-skipped : Skipped Swedish (labelAt y m d) → Finds y m d (Found′.Refused (refusal 5 0 (pos d)))
   finds-missing : Missing Swedish (labelAt y m d) → Finds y m d (Found′.Refused (refusal 4 0 (pos d)))
+
+-- the spot of day k: its label, and its ordinal
+pub record SpotOn (k : ℕ) (s : Spot) : Type 0 where
+  pub biased-is : s .biased ≡ k
+  pub label-is : labels Swedish (day k) ≡ labelAt (s .year) (s .month) (s .day)
+  pub ordinal-is : Ordinal (labels Swedish) (day k) (s .ordinal)

@@ -1,11 +1,13 @@
-// The Swedish calendar, with days and years as biased natural numbers: where a month and a year begin and end, and which day bears a label.
-// For the crates above.
+// The Swedish calendar, with days and years as biased natural numbers: where a month and a year begin and end, which day bears a label, and the
+// label of a day. For the crates above.
 
 ghost use mathlib.Core.Path.{_≡_};
-ghost use Rattle.days.specs.DayByDay.{Month};
-ghost use Rattle.inner.specs.Natural.{biasedYear};
-ghost use Rattle.swedish.specs.Promise.{MonthIs, SpansMonth, YearSpan, Finds};
-ghost use Rattle.swedish.specs.Private.{Plain, Refuses};
+ghost use Prim.Native.Nat.{_<_};
+ghost use Rattle.days.specs.BiasedDays.{day};
+ghost use Rattle.days.specs.DayByDay.{Month, Swedish, labels, julian, labelOf};
+ghost use Rattle.inner.specs.Natural.{biasedDay, biasedYear};
+ghost use Rattle.swedish.specs.Promise.{MonthIs, SpansMonth, YearSpan, Finds, SpotOn};
+ghost use Rattle.swedish.specs.Private.{Plain, Refuses, Labelled};
 use inner::Spot;
 use refusals::refusal_with;
 use switches::Found;
@@ -171,4 +173,74 @@ fn refusal_number(year: u32, month: u32, day: u32) -> u32
         return 4;
     }
     5
+}
+
+// ---- The label of a day
+
+// The biased days from which on labels are a day ahead, of 30 February 1712, and of the first Gregorian date.
+const AHEAD: u64 = 784_369_151_984;
+
+const THIRTIETH: u64 = 784_369_156_367;
+
+const REFORMED: u64 = 784_369_171_332;
+
+pub fn spot_on(raised: u32) -> Spot
+    ensures { λ s. ⌜ SpotOn (biasedDay raised) s ⌝ }
+{
+    let biased = raised as u64 + inner::LEAST_DAY;
+    if REFORMED <= biased {
+        let new = inner::gregorian_place(raised);
+        return labelled(
+            biased,
+            new.year,
+            new.ordinal,
+            inner::is_gregorian_leap(new.year),
+        );
+    }
+    if biased < AHEAD {
+        return old_label(biased, raised);
+    }
+    if biased < THIRTIETH {
+        return old_label(biased, raised + 1);
+    }
+    if THIRTIETH < biased {
+        return old_label(biased, raised);
+    }
+    Spot {
+        ordinal: 61,
+        biased: biased,
+        year: 2_147_485_360,
+        month: 2,
+        day: 30,
+    }
+}
+
+// By the Julian label of a day.
+fn old_label(biased: u64, raised: u32) -> Spot
+    requires { ⌜ (biased < 1_000_000_000_000) × (labels Swedish (day biased) ≡ labelOf julian (day (biasedDay raised))) ⌝ }
+    ensures { λ s. ⌜ SpotOn biased s ⌝ }
+{
+    let old = inner::julian_place(raised);
+    labelled(
+        biased,
+        old.year,
+        old.ordinal,
+        inner::is_julian_leap(old.year),
+    )
+}
+
+// By the place in a year, which is leap or not.
+fn labelled(biased: u64, year: u32, ordinal: u32, leap: bool) -> Spot
+    requires { ⌜ (biased < 1_000_000_000_000) × Labelled biased year ordinal leap ⌝ }
+    ensures { λ s. ⌜ SpotOn biased s ⌝ }
+{
+    let at = monthdays::month_day(leap, ordinal - 1);
+    let january = days_of(year, 1);
+    Spot {
+        ordinal: (biased + 1 - january.first) as u32,
+        biased: biased,
+        year: year,
+        month: at.month,
+        day: at.day,
+    }
 }

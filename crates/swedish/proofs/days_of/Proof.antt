@@ -1,6 +1,6 @@
 -- `swedish::days_of` meets its promise, stretch by stretch.
 -- Assumes nothing.
-use Prim.Native.Nat.{ℕ, _-_, _<_, _≤_}
+use Prim.Native.Nat.{ℕ, _<_, _≤_}
 use native.Mathlib.Omega.{arith}
 use borrow.Author.Needs.{needs}
 use Rattle.days.specs.DayByDay.{Month}

@@ -1,14 +1,15 @@
 -- `swedish::find` meets its promise, row by row.
 -- Assumes nothing.
+use mathlib.Core.Path.{_≡_}
 use Prim.Native.Nat.{ℕ, _+_, _-_, _<_, _≤_}
 use native.Mathlib.Omega.{arith}
 use borrow.Author.Needs.{needs}
-use Rattle.days.specs.DayByDay.{Month}
-use Rattle.days.specs.BiasedDays.{BiasedYear}
+use Rattle.days.specs.DayByDay.{label, Month, Swedish, labels, Ordinal}
+use Rattle.days.specs.BiasedDays.{day, year, BiasedYear}
 use Rattle.inner.specs.Natural.{biasedYear}
 use Rattle.inner.specs.Laws.{raised-year-biased}
 use Rattle.swedish.specs.Promise.{finds}
-use Rattle.swedish.specs.Laws.{month-room, on-day, on-ordinal, from-first, few-days, refused-row, no-month-row, no-day-row}
+use Rattle.swedish.specs.Laws.{month-room, on-day, in-year, refused-row, no-month-row, no-day-row}
 use Rattle.swedish.proofs.find.Statement.{statement}
 use Rattle.swedish.proofs.find.Tie as tie
 
@@ -27,6 +28,21 @@ biased o = raised-year-biased (start o .fits .year .fits)
 
 room : (o : tie.After-days-of) → (1 ≤ o .days-of .result .first) × (o .days-of .result .first ≤ o .days-of .result .past) × (o .days-of .result .past < 2_000_000_000_000)
 room o = month-room (year-of o) (start o .args .month) (is-month o) (biased o) (o .days-of .ensures)
+
+-- its day, where the month has it
+abbrev month-at : tie.After-struct-known3 → tie.After-days-of
+month-at c = c .before .before .before .before .before
+
+abbrev day-of : tie.After-struct-known3 → ℕ
+day-of c = month-at c .days-of .result .first + start (month-at c) .args .day - 1
+
+labelled : (c : tie.After-struct-known3) → labels Swedish (day (day-of c)) ≡ label (year (year-of (month-at c))) (start (month-at c) .args .month) (start (month-at c) .args .day)
+labelled c =
+    let o = month-at c in
+    on-day (year-of o) (start o .args .month) (start o .args .day) (biased o) (is-month o) (o .days-of .ensures) (o .before .if3 .left) (c .before .before .if4 .taken)
+
+placed : (c : tie.After-struct-known3) → Ordinal (labels Swedish) (day (day-of c)) (day-of c + 1 - c .before .days-of2 .result .first) × (c .before .days-of2 .result .first ≤ day-of c) × (day-of c < c .before .days-of2 .result .first + 400)
+placed c = in-year (year-of (month-at c)) (biased (month-at c)) (day-of c) (labelled c) (c .before .days-of2 .ensures)
 
 refusal-with-requires : tie.Need-refusal-with-requires
 refusal-with-requires c κs = search needs
@@ -62,16 +78,13 @@ add-t14 : tie.Need-add-t14
 add-t14 c = search needs
 
 sub-t15 : tie.Need-sub-t15
-sub-t15 c = let o = c .before .before .before .before .before in omega (arith, from-first (year-of o) (start o .args .month) (start o .args .day) (biased o) (is-month o) (o .days-of .ensures) (o .before .if3 .left) (c .before .before .if4 .taken) (c .before .days-of2 .ensures))
+sub-t15 c = omega (arith, placed c .1)
 
 cast-t16 : tie.Need-cast-t16
-cast-t16 c = let o = c .before .before .before .before .before in record { fits = omega (arith, few-days (year-of o) (start o .args .month) (start o .args .day) (biased o) (is-month o) (o .days-of .ensures) (o .before .if3 .left) (c .before .before .if4 .taken) (c .before .days-of2 .ensures)) }
+cast-t16 c = record { fits = omega (arith, placed c .2) }
 
 returns-4 : tie.Need-returns-4
-returns-4 c =
-    let o = c .before .before .before .before .before in
-    finds (on-day (year-of o) (start o .args .month) (start o .args .day) (biased o) (is-month o) (o .days-of .ensures) (o .before .if3 .left) (c .before .before .if4 .taken) (c .before .days-of2 .ensures))
-    (on-ordinal (year-of o) (start o .args .month) (start o .args .day) (biased o) (is-month o) (o .days-of .ensures) (o .before .if3 .left) (c .before .before .if4 .taken) (c .before .days-of2 .ensures))
+returns-4 c = finds (labelled c) (placed c .0)
 
 refusal-number-requires : tie.Need-refusal-number-requires
 refusal-number-requires c κs = search needs
