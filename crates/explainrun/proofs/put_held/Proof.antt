@@ -1,6 +1,7 @@
 -- `explainrun::put_held` meets its promise.
 -- Assumes nothing.
 use Rattle.explainrun.specs.Laws.{held-short, held-long}
+use native.Mathlib.Omega.{arith}
 use borrow.Author.Needs.{needs}
 use Rattle.explainrun.proofs.put_held.Statement.{statement}
 use Rattle.explainrun.proofs.put_held.Tie as tie
@@ -12,7 +13,7 @@ same-length : tie.Need-same-length
 same-length c = search needs
 
 returns : tie.Need-returns
-returns c = held-short (c .before .before .before .before .before .if1 .taken) (c .before .before .put-front .ensures)
+returns c = held-short (omega (arith, c .before .before .before .before .before .if1 .taken)) (c .before .before .put-front .ensures)
 
 explain-too-long-requires : tie.Need-explain-too-long-requires
 explain-too-long-requires c κs = search needs
@@ -21,7 +22,7 @@ same-length-2 : tie.Need-same-length-2
 same-length-2 c = search needs
 
 returns-2 : tie.Need-returns-2
-returns-2 c = held-long (c .before .before .before .before .if1 .left) (c .before .before .explain-too-long .ensures)
+returns-2 c = held-long (omega (arith, c .before .before .before .before .if1 .left)) (c .before .before .explain-too-long .ensures)
 
 pub put-held-spec : {M : Type 1} → statement M
 put-held-spec =
