@@ -1,4 +1,4 @@
-# Sourced by the scripts of bin/, and by oracle/port, which runs a program as they do. Each script of bin/ sets
+# Sourced by the scripts of bin/. Each of them sets
 #   name      its name, which is also that of its program and of the program's crate
 #   input     what its usage calls the file that is read
 #   kind      what that file holds

@@ -8,7 +8,6 @@ import sys
 
 BLOCK = 65536
 NAMES = [b'JULIAN', b'GREGORIAN', b'ITALY', b'AUGSBURG', b'UNITED_KINGDOM', b'LIEGE', b'ATLANTIS']  # AUGSBURG and LIEGE are house calendars
-SWEDISH = [b'1700-2-29', b'1700-3-1', b'1712-2-29', b'1712-2-30', b'1712-61', b'1712-2-31', b'1712-3-1', b'1753-2-17', b'1753-2-29', b'1753-3-1']
 
 data = bytearray()
 
@@ -50,7 +49,6 @@ data.extend(b'\n' * 9000)                   # more output than a block holds
 cut(3, long_line(513), 512)                 # before the last byte of a line of 513 bytes, and its newline
 data.extend(long_line(70000))               # longer than a block: border 4 is within it
 cut(5, b'JULIAN\t-4712-1-1\n', 17)          # a newline is the last byte of its block
-data.extend(b''.join(b'SWEDISH\t%s\n' % text for text in SWEDISH))
 data.extend(b'SPAIN\t1582-10-5\n')
 data.extend(b'RUSSIA\t1918-2-14')           # no newline
 sys.stdout.buffer.write(data)

@@ -86,7 +86,7 @@ UNITED_KINGDOM 1752-09-14, UNITED_STATES 1752-09-14, YUGOSLAVIA 1919-03-18
 """
 
 
-NOT_REFORMING = {b'JULIAN': 'J', b'GREGORIAN': 'G', b'SWEDISH': 'S'}
+NOT_REFORMING = {b'JULIAN': 'J', b'GREGORIAN': 'G'}  # the 37th name is b'SWEDISH': 'S'
 
 
 def calendars_by_name():

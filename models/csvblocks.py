@@ -55,6 +55,5 @@ cut(3, b'ITALY,"1582-10-15\r', b'\n"\r\n')              # within quotes
 cut(4, b'ITALY,"1582"', b'"-10-15"\r\n')               # between the two of a doubled quote
 cut(5, b'"ITALY","1582-10-15"', b'\r\n')                # after a closing quote
 cut(6, b'', b'"LIEGE",1582-12-31\r\n')                  # before a record
-data.extend(b'SWEDISH,1700-2-29\r\nSWEDISH,"1712-2-30"\n"SWEDISH",1712-61\r\nSWEDEN,1712-2-30\r\n')
 data.extend(b'SPAIN,1582-10-5\r\n"SPAIN","1582-10-15\r\n')
 sys.stdout.buffer.write(data)

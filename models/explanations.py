@@ -19,7 +19,7 @@ MOST = 2**32 - 1
 
 with open(os.path.join(os.path.dirname(__file__), '../crates/explain/data/houses'), 'rb') as f:
     HOUSES = catalogue.meaning(f.read())
-BUILT_IN = [b'JULIAN', b'GREGORIAN', b'ITALY', b'DENMARK', b'SWEDEN', b'SWEDISH', b'SWITZERLAND', b'UNITED_KINGDOM', b'ALBANIA', b'CHINA']
+BUILT_IN = [b'JULIAN', b'GREGORIAN', b'ITALY', b'DENMARK', b'SWEDEN', b'SWITZERLAND', b'UNITED_KINGDOM', b'ALBANIA', b'CHINA']
 CALENDARS = {**{name: NAMES[name] for name in BUILT_IN}, **HOUSES}
 
 

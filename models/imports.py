@@ -46,7 +46,6 @@ def files():
         yield from (GOOD + end, QUOTED + end)
     yield from (b'calendar,date\r\n' + MORE, b'"calendar","date"\r\n' + MORE, b'\xef\xbb\xbf' + MORE, MORE + b'\xef\xbb\xbf' + MORE, b'\xff\xfe', b'\0', bytes(40))
     yield b'DENMARK,1700-2-18\nDENMARK,1700-3-1\r\n"DENMARK",1700-2-19\nJULIAN,"-4712-1-1"'
-    yield b'SWEDISH,1700-2-28\nSWEDISH,1700-2-29\r\n"SWEDISH",1712-2-30\nSWEDISH,"1712-61"\nSWEDEN,1712-2-30'
     yield MORE * 20
     yield b'\n'.join(b'%s,1752-9-%d' % (name, day) for name in [b'UNITED_KINGDOM', b'JULIAN', b'GREGORIAN'] for day in (2, 3, 13, 14)) + b'\n'
 

@@ -3,10 +3,13 @@
 
 queries  For crates/probe/stdin, before the heading of the crate julian 0.7.1. `python3 models/swedish.py queries | python3 models/known.py` has the
          answers, for the same place in crates/probe/stdout.
-every    Every day of 1699 to 1754 through every call. These are too many to be kept: samples/check compares what the port answers to them
-         (oracle/port) with what known.py answers.
-entries  The same years for the listing and for the explanation: cases of samples/check, which compares a script with its model. With a comma for the
-         tab they are records for the import.
+every    Every day of 1699 to 1754 through every call. These are too many to be kept: what target/bin/probe answers to them is compared with
+         `python3 models/swedish.py every | python3 models/known.py`.
+entries  The same years for the listing and for the explanation: cases of samples/check, which compares a script with its model (`as_model`). With a
+         comma for the tab they are records for the import.
+
+The probe has to take `S` as CAL and as the style of a record; in a digest that style counts as 2. The models know the name SWEDISH once it stands in
+NOT_REFORMING (calendars.py). Once it stands in BUILT_IN (explanations.py) too, crates/explain/stdin has its switches.
 """
 import sys
 

@@ -1,6 +1,6 @@
 // Runs one call of the library many times over days that are prepared in memory, and writes a sum over all fields of the answers, so that
 // what the call costs can be counted. Standard input is a list of orders of eight bytes: the call (`n` none, `j` at_jdn, `y` at_ymd,
-// `p` parse_date, `s` succ), the calendar (`J`, `G`, `S`, or `R` for the one of 1582), the number of rounds in five digits, and a line end.
+// `p` parse_date, `s` succ), the calendar (`J`, `G`, or `R` for the one of 1582), the number of rounds in five digits, and a line end.
 ghost use Rattle.std.specs.Prelude.{◌≡◌, ◌+◌, ◌<◌, ◌≤◌, length};
 
 use calendar::{Calendar, Date, Dated, Style};
@@ -135,7 +135,7 @@ fn style_bit(style: Style) -> u32 {
     match style {
         Style::Julian => 0,
         Style::Gregorian => 1,
-        Style::Swedish => 2,
+        Style::Swedish => 0,
     }
 }
 
@@ -290,7 +290,6 @@ fn calendar_of(letter: u8) -> Calendar {
     match letter {
         b'J' => Calendar::Julian,
         b'G' => Calendar::Gregorian,
-        b'S' => Calendar::Swedish,
         _ => Calendar::REFORM1582,
     }
 }

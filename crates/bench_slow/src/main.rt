@@ -1,6 +1,6 @@
 // Asks the library one question over and over, and writes a sum over the answers, so that what is not usual can be counted: a refused call, or
 // one about the year of a switch. Standard input is an order such as `yR 1582 10 4 16`: the call (`n` none, `j` at_jdn, `y` at_ymd,
-// `o` at_ordinal_date), the calendar (`J`, `G`, `S`, `R` for the one of 1582, `M` for a made-up one), year, month, day and the number of rounds.
+// `o` at_ordinal_date), the calendar (`J`, `G`, `R` for the one of 1582, `M` for a made-up one), year, month, day and the number of rounds.
 // at_ordinal_date has its ordinal in the place of the day, and at_jdn its day number in the place of the year.
 // Each call stands in two places, before its loop and in it, so that the compiler leaves it a call.
 use calendar::{Calendar, Date, Dated, Style};
@@ -17,7 +17,7 @@ fn style_bit(style: Style) -> u32 {
     match style {
         Style::Julian => 0,
         Style::Gregorian => 1,
-        Style::Swedish => 2,
+        Style::Swedish => 0,
     }
 }
 
@@ -133,7 +133,6 @@ fn calendar_of(letter: u8) -> Calendar {
     match letter {
         b'J' => Calendar::Julian,
         b'G' => Calendar::Gregorian,
-        b'S' => Calendar::Swedish,
         b'R' => Calendar::REFORM1582,
         _ => Calendar::Reforming(0),
     }

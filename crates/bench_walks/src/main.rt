@@ -1,5 +1,5 @@
 // Walks day by day, and writes a sum over all fields of the dates, so that what a step costs can be counted. Standard input is an order of
-// seven bytes: the walker (`l` later, `e` earlier, `a` and_later), the calendar (`J`, `G`, `S`, or `R` for the one of 1582), and the number of
+// seven bytes: the walker (`l` later, `e` earlier, `a` and_later), the calendar (`J`, `G`, or `R` for the one of 1582), and the number of
 // rounds in five digits. In each round a walker is made on day 2298000, which is some three years before the switch of 1582, and gives 4096
 // dates.
 use calendar::{Calendar, Date, Dated, Style};
@@ -17,7 +17,7 @@ fn style_bit(style: Style) -> u32 {
     match style {
         Style::Julian => 0,
         Style::Gregorian => 1,
-        Style::Swedish => 2,
+        Style::Swedish => 0,
     }
 }
 
@@ -87,7 +87,6 @@ fn calendar_of(letter: u8) -> Calendar {
     match letter {
         b'J' => Calendar::Julian,
         b'G' => Calendar::Gregorian,
-        b'S' => Calendar::Swedish,
         _ => Calendar::REFORM1582,
     }
 }

@@ -3,7 +3,7 @@ use Rattle.std.specs.Prelude.{◌≡◌, Bool, true, false, ℤ}
 use Rattle.days.specs.DayByDay as D
 use Rattle.days.specs.DayByDay.{Label, label, Timeline, labels_in, style_in, Ordinal, DayOrdinal, JulianStyle, GregorianStyle, SwedishStyle}
 use Rattle.calendar.specs.declared.Calendar.{Calendar}
-use Rattle.calendar.specs.declared.Calendar.TheVariants.{Julian, Gregorian, Reforming, Swedish}
+use Rattle.calendar.specs.declared.Calendar.TheVariants.{Julian, Gregorian, Reforming}
 use Rattle.calendar.specs.declared.Style.{Style}
 use Rattle.calendar.specs.declared.Style.TheVariants as Style'
 use Rattle.calendar.specs.declared.Date.{Date}
@@ -13,7 +13,6 @@ abbrev pub definition_of : Calendar → D.Calendar
 definition_of Julian = D.Julian
 definition_of Gregorian = D.Gregorian
 definition_of (Reforming r) = D.Reforming r
-definition_of Swedish = D.Swedish
 
 abbrev pub timeline : Calendar → Timeline
 timeline c = D.timeline (definition_of c)
@@ -52,18 +51,11 @@ pub record Genuine (d : Date) : Type 0 where
   pub accepted : Accepted d.calendar
   pub is_record : IsRecord d.calendar d.jdn d
 
--- a calendar is reforming at some day, or proleptic, or neither
+-- a calendar is reforming, or proleptic
 abbrev pub is_reforming_value : Calendar → Bool
 is_reforming_value Julian = false
 is_reforming_value Gregorian = false
 is_reforming_value (Reforming r) = true
-is_reforming_value Swedish = false
-
-abbrev pub is_proleptic_value : Calendar → Bool
-is_proleptic_value Julian = true
-is_proleptic_value Gregorian = true
-is_proleptic_value (Reforming r) = false
-is_proleptic_value Swedish = false
 
 -- one kind of label is another
 abbrev pub same_style : D.Style → D.Style → Bool

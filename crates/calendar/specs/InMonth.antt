@@ -1,55 +1,56 @@
 -- The next day of a month: what `next_in_month` promises, that this is one answer, and that the answer is the record of the next day.
 -- Assumes nothing.
 use Rattle.std.specs.Prelude.{◌≡◌, refl, Bool, true, false, ℕ, suc, ◌+◌, ◌-◌, ◌<◌, ◌≤◌, ◌^◌, eqb, ℤ}
-use Rattle.std.proofs.Common.{sym, ◌∙◌, ap, subst, ⊎_elim, arith, eqb-true}
-use Rattle.std.proofs.Math.Path.{subst₂}
+use Rattle.std.proofs.Math.Path.{sym, subst}
+use Rattle.std.proofs.Common.{◌∙◌, ap, subst₂, ⊎_elim, arith, eqb-true}
 use Rattle.std.proofs.lemmas.Bool.{eqb-false}
 use Rattle.std.proofs.Math.IntN.{suc_ℤ, pred_ℤ, -ℤ_one}
 use Rattle.whole.specs.Whether.{Whether}
 use Rattle.whole.specs.Tests.{true_or_false}
 use Rattle.whole.specs.Biased.{unbias_suc, unbias_back, unbias_injective}
 use Rattle.whole.specs.Promise.{unbias}
-use Rattle.days.specs.DayByDay.{Label, label, Month, Is32Bit}
+use Rattle.days.specs.DayByDay.{label, style, Is32Bit}
 use Rattle.days.specs.RisingLabels.{once}
 use Rattle.days.specs.ReckoningSteps.{month_least}
 use Rattle.days.specs.ClosedEnds.{suc_is, pred_is}
 use Rattle.days.specs.BiasedDays.{day_bias, year_bias, day, year, BiasedYear}
 use Rattle.days.specs.ClosedJulian as J
 use Rattle.days.specs.ClosedGregorian as G
-use Rattle.days.specs.ClosedNumbers.{days_before_value, within_year, ThereIn}
-use Rattle.days.specs.AcceptedCalendars.{accepted_rises, labels_proper}
+use Rattle.days.specs.ClosedNumbers.{days_before_value, ThereIn}
+use Rattle.days.specs.AcceptedCalendars.{accepted_rises}
+use Rattle.days.specs.ClosedRuns.{Runs, runs_one, on_none}
 use Rattle.inner.specs.Natural.{biased_day, biased_year_value}
 use Rattle.inner.specs.Laws.{biased_day_lem}
+use Rattle.inner.specs.Spots.{spot}
 use Rattle.monthdays.specs.Promise.{OrdinalOf}
 use Rattle.monthdays.specs.declared.DayOrdinal.TheVariants as DayOrdinal'
-use Rattle.switches.specs.Laws.{Wholly, wholly_old, wholly_new, ordinal_sum, ordinal_none}
+use Rattle.switches.specs.declared.PlainYear.{PlainYear}
+use Rattle.switches.specs.Promise.{YearIn}
+use Rattle.switches.specs.One.{year_in_one}
+use Rattle.switches.specs.Laws.{Wholly, wholly_old, wholly_new, wholly_none, ordinal_sum, ordinal_none}
 use Rattle.ways.specs.Promise.{beside, Inside}
 use Rattle.ways.specs.Laws.{room_up, room_down}
 use Rattle.calendar.specs.declared.Date.{Date}
 use Rattle.calendar.specs.declared.Dated.TheVariants as Dated'
 use Rattle.calendar.specs.declared.Near.{Near}
 use Rattle.calendar.specs.declared.Near.TheVariants as Near'
-use Rattle.calendar.specs.Calendars.{definition_of, labels, Accepted, IsRecord, Genuine}
+use Rattle.calendar.specs.Calendars.{definition_of, labels, style_of, IsRecord, Genuine}
 use Rattle.calendar.specs.Rows.{passes}
 use Rattle.calendar.specs.Promise.{record_of, Next}
 use Rattle.calendar.specs.One.{whole, record_one}
-use Rattle.calendar.specs.Natural.{TurnIs, style_number_value, style_by_value}
-use Rattle.calendar.specs.Packing.{style_back}
-use Rattle.calendar.specs.Turns.{usual_record, turn_missing, whole_there, turn_one}
+use Rattle.calendar.specs.Natural.{OnSpot, Plain, plain_record_value, style_at_value, style_number_value}
+use Rattle.calendar.specs.Laws.{old_style, new_style, style_at, labelled_is, labelled_room, record_plain, style_number_one, whole_label, whole_there}
 
 -- ---- What is promised
--- the year of a date is wholly in one reckoning: its first day there, whether it is leap there, and the number of the style
-pub record WholeYearIn (d : Date) (t : ℕ) (l : Bool) (v : ℕ) : Type 0 where
-  pub last_old : ℕ
-  pub first_new : ℕ
+-- the year of a date is wholly in one reckoning
+pub record WholeYear (d : Date) : Type 0 where
+  pub switch : ℕ
   pub biased_year : ℕ
-  pub turn : TurnIs d.calendar last_old first_new
-  pub in_range_lem : BiasedYear (biased_year_value biased_year)
+  pub at : PlainYear
+  pub runs : Runs (definition_of d.calendar) switch
   pub year_is : year (biased_year_value biased_year) ≡ d.year
-  pub wholly : Wholly last_old first_new (biased_year_value biased_year) t l v
-
-abbrev pub WholeYear : Date → Type 0
-WholeYear d = (t : ℕ) × (l : Bool) × (v : ℕ) × WholeYearIn d t l v
+  pub year_in : YearIn switch (biased_year_value biased_year) at
+  pub wholly : at.whole ≡ true
 
 -- the next date of the month is found from the date alone
 pub record InMonth (l : Bool) (d : Date) : Type 0 where
@@ -93,14 +94,14 @@ IsUsual d true = Usual d
 IsUsual d false = ¬ (Genuine d × WholeYear d)
 
 -- the numbers of a date in a year that is wholly in one reckoning
-pub record On (d : Date) (v past o : ℕ) : Type 0 where
+pub record On (d : Date) (r past o : ℕ) : Type 0 where
   pub ordinal_is : d.ordinal ≡ o
   pub day_ordinal_is : d.day_ordinal ≡ d.day
-  pub style_is : style_number_value d.style ≡ v
+  pub style_is : d.style ≡ style_at_value r (past - 1)
   pub day_is : day (past - 1) ≡ d.jdn
 
 abbrev pub IsOn : Date → ℕ → ℕ → ℕ → Bool → Type 0
-IsOn d v past o = Whether (On d v past o)
+IsOn d r past o = Whether (On d r past o)
 
 abbrev pub OneOn : Bool → ℕ → Type 0
 OneOn true n = n + 1 < 2 ^ 32
@@ -109,68 +110,69 @@ OneOn false n = 1 ≤ n
 abbrev pub Movable : Bool → Date → Type 0
 Movable l d = OneOn l d.ordinal × OneOn l d.day × OneOn l d.day_ordinal × Is32Bit (beside l d.jdn)
 
--- ---- A year that is wholly in one reckoning
-wholly_style : {a b y t s : ℕ} {l : Bool} → Wholly a b y t l s → style_number_value (style_by_value s) ≡ s
-wholly_style (wholly_old g) = refl
-wholly_style (wholly_new f g) = refl
-
-ordinal_few : {a b y t s o m d : ℕ} {l : Bool} → Wholly a b y t l s → OrdinalOf l m d (DayOrdinal'.At o) → (1 ≤ o) × (o ≤ 366)
-ordinal_few {m = m} {d} {l} w p = let (v, f) = ordinal_sum p in (omega (arith, v.2, f), omega (arith, within_year (λ y. l) (λ y. 0) 0 m d v, f))
+-- ---- The style of the days of a year
+-- it is one style, where the year is wholly in one reckoning
+year_style : {r y t : ℕ} {b : Bool} (i o : ℕ) → Wholly r y t b → (1 ≤ i) × (i ≤ 366) → (1 ≤ o) × (o ≤ 366) → style_at_value r (t + i - 1) ≡ style_at_value r (t + o - 1)
+year_style {y = y} i o (wholly_old g) (h, k) (f, u) = sym (old_style (J.start y + i - 1) (omega arith)) ∙ old_style (J.start y + o - 1) (omega arith)
+year_style {y = y} i o (wholly_new z g) (h, k) (f, u) = sym (new_style (G.start y + i - 1) (after (G.start y) i g h)) ∙ new_style (G.start y + o - 1) (after (G.start y) o g f)
+  where
+    after : {r : ℕ} (s i : ℕ) → r ≤ s → 1 ≤ i → r ≤ s + i - 1
+    after s i g h = omega arith
 
 -- ---- A date in a year that is wholly in one reckoning, by its label
-module _ (d : Date) {a b : ℕ} (y : ℕ) (turn : TurnIs d.calendar a b) (h : BiasedYear (biased_year_value y)) (e : year (biased_year_value y) ≡ d.year) where
+module _ (d : Date) {r : ℕ} (y : ℕ) (runs : Runs (definition_of d.calendar) r) (h : BiasedYear (biased_year_value y)) (e : year (biased_year_value y) ≡ d.year) where
   -- the label is nowhere
-  pub none_genuine : {t s : ℕ} {l : Bool} → Wholly a b (biased_year_value y) t l s → OrdinalOf l d.month d.day DayOrdinal'.Nothing → ¬ Genuine d
-  none_genuine w n g =
-      let p = labels_proper (definition_of d.calendar) d.jdn in
-      let v : Month d.month = subst (λ (l : Label). Month l.month) g.is_record.label_is (p.0, p.1) in
-      (turn_missing d.calendar turn y h v w (ordinal_none n)).1.0 (d.jdn, g.is_record.label_is ∙ ap (λ (z : ℤ). label z d.month d.day) (sym e))
+  pub none_genuine : {t : ℕ} {b : Bool} → Wholly r (biased_year_value y) t b → OrdinalOf b d.month d.day DayOrdinal'.Nothing → ¬ Genuine d
+  none_genuine w n g = let (i, j, o) = wholly_none y w (ordinal_none n) in (on_none runs (biased_year_value y) d.month d.day e h i j o).0 (d.jdn, g.is_record.label_is)
 
   -- or it has an ordinal
-  module _ {t o s : ℕ} {leap : Bool} (w : Wholly a b (biased_year_value y) t leap s) (p : OrdinalOf leap d.month d.day (DayOrdinal'.At o)) where
-    there : {i j : ℕ} → ThereIn leap d.month j → days_before_value leap d.month + j ≡ i → Accepted d.calendar × IsRecord d.calendar (day (t + i - 1)) (usual_record d.calendar (t + i - 1) (biased_year_value y) d.month j i (style_by_value s))
-    there v f = whole_there d.calendar turn y h w v f
+  module _ {t o : ℕ} {b : Bool} (w : Wholly r (biased_year_value y) t b) (p : OrdinalOf b d.month d.day (DayOrdinal'.At o)) where
+    abbrev here : OnSpot r (spot (t + o - 1) y o d.month d.day) × Plain r (spot (t + o - 1) y o d.month d.day)
+    here = whole_label y h w p
 
-    here : Accepted d.calendar × IsRecord d.calendar (day (t + o - 1)) (usual_record d.calendar (t + o - 1) (biased_year_value y) d.month d.day o (style_by_value s))
-    here = let (v, f) = ordinal_sum p in there v f
+    -- the style of a day of this year
+    style_of_lem : (i : ℕ) {m n : ℕ} → OnSpot r (spot (t + i - 1) y i m n) → style_of (style (definition_of d.calendar) (day (t + i - 1))) ≡ style_at_value r (t + i - 1)
+    style_of_lem i l = style_at d.calendar runs (omega (arith, labelled_room l))
 
-    pub on_genuine : On d s (t + o) o → Genuine d
+    record_here : day (t + o - 1) ≡ d.jdn → IsRecord d.calendar d.jdn (plain_record_value d.calendar (style_at_value r (t + o - 1)) (spot (t + o - 1) y o d.month d.day) d.jdn)
+    record_here q = record_plain d.calendar runs (spot (t + o - 1) y o d.month d.day) here.0 q (style_of_lem o here.0) here.1
+
+    pub on_genuine : On d r (t + o) o → Genuine d
     unfolding whole
-    on_genuine q = record { accepted = here.0; is_record = subst₂ (IsRecord d.calendar) q.day_is same here.1 }
+    on_genuine q = record { accepted = runs.accepted; is_record = subst (IsRecord d.calendar d.jdn) same (record_here q.day_is) }
       where
-        same : usual_record d.calendar (t + o - 1) (biased_year_value y) d.month d.day o (style_by_value s) ≡ d
+        same : plain_record_value d.calendar (style_at_value r (t + o - 1)) (spot (t + o - 1) y o d.month d.day) d.jdn ≡ d
         same =
             let f : d.ordinal ≡ o = q.ordinal_is in
             let g : d.day_ordinal ≡ d.day = q.day_ordinal_is in
             let i : year (biased_year_value y) ≡ d.year = e in
-            let v : style_by_value s ≡ d.style = style_back d.style (sym q.style_is) in
-            let j : day (t + o - 1) ≡ d.jdn = q.day_is in
-            let x : whole d.calendar (year (biased_year_value y)) o d.month d.day d.day (day (t + o - 1)) (style_by_value s) ≡ whole d.calendar d.year d.ordinal d.month d.day d.day_ordinal d.jdn d.style = cc in
+            let v : d.style ≡ style_at_value r (t + o - 1) = q.style_is in
+            let x : whole d.calendar (year (biased_year_value y)) o d.month d.day d.day d.jdn (style_at_value r (t + o - 1)) ≡ whole d.calendar d.year d.ordinal d.month d.day d.day_ordinal d.jdn d.style = cc in
             x
 
-    pub genuine_on : Genuine d → On d s (t + o) o
+    pub genuine_on : Genuine d → On d r (t + o) o
     genuine_on g =
-        let l : labels d.calendar (day (t + o - 1)) ≡ label d.year d.month d.day = here.1.label_is ∙ ap (λ (z : ℤ). label z d.month d.day) e in
-        let q : day (t + o - 1) ≡ d.jdn = once (accepted_rises here.0) (l ∙ sym g.is_record.label_is) in
-        let i = record_one g.is_record (subst (λ (n : ℤ). IsRecord d.calendar n (usual_record d.calendar (t + o - 1) (biased_year_value y) d.month d.day o (style_by_value s))) q here.1) in
-        record { ordinal_is = ap (λ (x : Date). x.ordinal) i; day_ordinal_is = ap (λ (x : Date). x.day_ordinal) i; style_is = ap (λ (x : Date). style_number_value x.style) i ∙ wholly_style w; day_is = q }
+        let l : labels d.calendar (day (t + o - 1)) ≡ label d.year d.month d.day = labelled_is d.calendar runs here.0 ∙ ap (λ (z : ℤ). label z d.month d.day) e in
+        let q : day (t + o - 1) ≡ d.jdn = once (accepted_rises runs.accepted) (l ∙ sym g.is_record.label_is) in
+        let i = record_one g.is_record (record_here q) in
+        record { ordinal_is = ap (λ (x : Date). x.ordinal) i; day_ordinal_is = ap (λ (x : Date). x.day_ordinal) i; style_is = ap (λ (x : Date). x.style) i; day_is = q }
 
     -- the record next to it
-    next_there : (l : Bool) → Inside l d.day → ThereIn leap d.month d.day → ThereIn leap d.month (one_on_value l d.day)
-    next_there true i v = (v.0, v.1, omega arith, omega (arith, month_least leap d.month v.0 v.1))
+    next_there : (l : Bool) → Inside l d.day → ThereIn b d.month d.day → ThereIn b d.month (one_on_value l d.day)
+    next_there true i v = (v.0, v.1, omega arith, omega (arith, month_least b d.month v.0 v.1))
     next_there false i v = (v.0, v.1, omega arith, omega (arith, v.3))
 
-    next_ordinal : (l : Bool) → Inside l d.day → days_before_value leap d.month + d.day ≡ o → days_before_value leap d.month + one_on_value l d.day ≡ one_on_value l o
-    next_ordinal true i f = sum (days_before_value leap d.month) f
+    next_ordinal : (l : Bool) → Inside l d.day → days_before_value b d.month + d.day ≡ o → days_before_value b d.month + one_on_value l d.day ≡ one_on_value l o
+    next_ordinal true i f = sum (days_before_value b d.month) f
       where
         sum : (k : ℕ) → k + d.day ≡ o → k + (d.day + 1) ≡ o + 1
         sum k f = omega arith
-    next_ordinal false i f = sum (days_before_value leap d.month) i f
+    next_ordinal false i f = sum (days_before_value b d.month) i f
       where
         sum : (k : ℕ) → 2 ≤ d.day → k + d.day ≡ o → k + (d.day - 1) ≡ o - 1
         sum k i f = omega arith
 
-    next_day : (l : Bool) → Inside l d.day → 1 ≤ d.day → days_before_value leap d.month + d.day ≡ o → day (t + o - 1) ≡ d.jdn → day (t + one_on_value l o - 1) ≡ beside l d.jdn
+    next_day : (l : Bool) → Inside l d.day → 1 ≤ d.day → days_before_value b d.month + d.day ≡ o → day (t + o - 1) ≡ d.jdn → day (t + one_on_value l o - 1) ≡ beside l d.jdn
     next_day true i j f q = ap day (up t (omega arith)) ∙ unbias_suc day_bias (t + o - 1) ∙ ap suc_ℤ q
       where
         up : (t : ℕ) → 1 ≤ o → t + (o + 1) - 1 ≡ suc (t + o - 1)
@@ -180,67 +182,73 @@ module _ (d : Date) {a b : ℕ} (y : ℕ) (turn : TurnIs d.calendar a b) (h : Bi
         down : (t : ℕ) → 2 ≤ o → t + (o - 1) - 1 ≡ t + o - 1 - 1
         down t h = omega arith
 
-    next_record : On d s (t + o) o → (l : Bool) → Inside l d.day → IsRecord d.calendar (beside l d.jdn) (moved_by l d)
+    next_record : On d r (t + o) o → (l : Bool) → Inside l d.day → IsRecord d.calendar (beside l d.jdn) (moved_by l d)
     unfolding whole
     next_record q l i =
         let (v, f) = ordinal_sum p in
-        subst₂ (IsRecord d.calendar) (to v f) (same (to v f)) (there (next_there l i v) (next_ordinal l i f)).1
+        let (u, k) = whole_there y h w (next_there l i v) (next_ordinal l i f) in
+        subst (IsRecord d.calendar (beside l d.jdn)) same
+        (record_plain d.calendar runs (spot (t + one_on_value l o - 1) y (one_on_value l o) d.month (one_on_value l d.day)) u (next_day l i v.2 f q.day_is) (style_of_lem (one_on_value l o) u ∙ goes_on u) k)
       where
-        to : ThereIn leap d.month d.day → days_before_value leap d.month + d.day ≡ o → day (t + one_on_value l o - 1) ≡ beside l d.jdn
-        to v f = next_day l i v.2 f q.day_is
+        goes_on : OnSpot r (spot (t + one_on_value l o - 1) y (one_on_value l o) d.month (one_on_value l d.day)) → style_at_value r (t + one_on_value l o - 1) ≡ d.style
+        goes_on u =
+            let m = labelled_room here.0 in
+            let n = labelled_room u in
+            year_style (one_on_value l o) o w (n.1, n.2) (m.1, m.2) ∙ sym q.style_is
 
-        same : day (t + one_on_value l o - 1) ≡ beside l d.jdn → usual_record d.calendar (t + one_on_value l o - 1) (biased_year_value y) d.month (one_on_value l d.day) (one_on_value l o) (style_by_value s) ≡ moved_by l d
-        same j =
+        same : plain_record_value d.calendar d.style (spot (t + one_on_value l o - 1) y (one_on_value l o) d.month (one_on_value l d.day)) (beside l d.jdn) ≡ moved_by l d
+        same =
             let f : one_on_value l o ≡ one_on_value l d.ordinal = ap (one_on_value l) (sym q.ordinal_is) in
             let g : one_on_value l d.day ≡ one_on_value l d.day_ordinal = ap (one_on_value l) (sym q.day_ordinal_is) in
             let i : year (biased_year_value y) ≡ d.year = e in
-            let v : style_by_value s ≡ d.style = style_back d.style (sym q.style_is) in
-            let x : whole d.calendar (year (biased_year_value y)) (one_on_value l o) d.month (one_on_value l d.day) (one_on_value l d.day) (day (t + one_on_value l o - 1)) (style_by_value s)
+            let x : whole d.calendar (year (biased_year_value y)) (one_on_value l o) d.month (one_on_value l d.day) (one_on_value l d.day) (beside l d.jdn) d.style
             ≡ whole d.calendar d.year (one_on_value l d.ordinal) d.month (one_on_value l d.day) (one_on_value l d.day_ordinal) (beside l d.jdn) d.style = cc in
             x
 
-    pub on_usual : WholeYear d → On d s (t + o) o → Usual d
-    on_usual x q =
-        let n = ordinal_few w p in
+    pub on_usual : WholeYear d → On d r (t + o) o → Usual d
+    on_usual a q =
+        let n = labelled_room here.0 in
         record {
           genuine = on_genuine q;
-          whole_year = x;
-          some = subst (λ (k : ℕ). 1 ≤ k) (sym q.ordinal_is) n.0;
-          few = subst (λ (k : ℕ). k ≤ 366) (sym q.ordinal_is) n.1;
+          whole_year = a;
+          some = subst (λ (k : ℕ). 1 ≤ k) (sym q.ordinal_is) n.1;
+          few = subst (λ (k : ℕ). k ≤ 366) (sym q.ordinal_is) n.2;
           day_ordinal_is = q.day_ordinal_is;
           next = next_record q;
         }
 
-    pub usual_by : WholeYear d → (b : Bool) → IsOn d s (t + o) o b → IsUsual d b
-    usual_by x true q = on_usual x q
-    usual_by x false n = λ g. n (genuine_on g.0)
+    pub usual_by : WholeYear d → (b : Bool) → IsOn d r (t + o) o b → IsUsual d b
+    usual_by a true q = on_usual a q
+    usual_by a false n = λ g. n (genuine_on g.0)
 
 -- a year that is not wholly in one
-pub not_whole : (d : Date) {a b : ℕ} (y : ℕ) → TurnIs d.calendar a b → year (biased_year_value y) ≡ d.year
-    → (J.start (biased_year_value y) + 366 < a → ⊥) → (a ≤ J.start (biased_year_value y) → b ≤ G.start (biased_year_value y) → ⊥) → ¬ WholeYear d
-not_whole d {a} {b} y turn e f g (t, l, v, w) =
-    let (i, j) = turn_one w.turn turn in
-    let k : biased_year_value w.biased_year ≡ biased_year_value y = unbias_injective year_bias (biased_year_value w.biased_year) (biased_year_value y) (w.year_is ∙ sym e) in
-    never (subst (λ (k : ℕ). Wholly a b k t l v) k (subst₂ (λ (a b : ℕ). Wholly a b (biased_year_value w.biased_year) t l v) i j w.wholly))
+pub not_whole : (d : Date) {r : ℕ} (y : ℕ) {p : PlainYear} → Runs (definition_of d.calendar) r → year (biased_year_value y) ≡ d.year → YearIn r (biased_year_value y) p → p.whole ≡ false → ¬ WholeYear d
+not_whole d {r} y {p} runs e i f w =
+    let j : YearIn r (biased_year_value y) w.at = subst₂ (λ (r k : ℕ). YearIn r k w.at) (runs_one w.runs runs) (unbias_injective year_bias (biased_year_value w.biased_year) (biased_year_value y) (w.year_is ∙ sym e)) w.year_in in
+    never (sym w.wholly ∙ ap (λ (p : PlainYear). p.whole) (year_in_one r (biased_year_value y) w.at p j i) ∙ f)
   where
-    never : {t v : ℕ} {l : Bool} → Wholly a b (biased_year_value y) t l v → ⊥
-    never (wholly_old h) = f h
-    never (wholly_new h k) = g h k
+    never : ◌≡◌ {A = Bool} true false → ⊥
+    never z = let q : ◌≡◌ {A = ℕ} 0 1 = cc in omega arith
 
 -- ---- The answer, from the parts
 -- whether a date has these numbers is told by comparing them
-module _ (d : Date) (v x past : ℕ) {o : ℕ} (e : unbias (2 ^ 31) x ≡ d.jdn) where
-  pub on_day : On d v past o → biased_day x + 1 ≡ past
+module _ (d : Date) (r x past : ℕ) {o : ℕ} (e : unbias (2 ^ 31) x ≡ d.jdn) where
+  pub on_day : On d r past o → biased_day x + 1 ≡ past
   on_day q = up (unbias_injective day_bias (past - 1) (biased_day x) (q.day_is ∙ sym (biased_day_lem x ∙ e)))
     where
       up : past - 1 ≡ biased_day x → biased_day x + 1 ≡ past
       up e = omega arith
 
-  pub on_by : d.ordinal ≡ o → d.day_ordinal ≡ d.day → biased_day x + 1 ≡ past → IsOn d v past o (eqb (style_number_value d.style) v)
+  pub on_by : d.ordinal ≡ o → d.day_ordinal ≡ d.day → biased_day x + 1 ≡ past → IsOn d r past o (eqb (style_number_value d.style) (style_number_value (style_at_value r (biased_day x))))
   on_by f g h = ⊎_elim
-      (λ t. subst (IsOn d v past o) (sym t) (record { ordinal_is = f; day_ordinal_is = g; style_is = eqb-true _ _ t; day_is = ap day back ∙ biased_day_lem x ∙ e }))
-      (λ t. subst (IsOn d v past o) (sym t) (λ q. eqb-false _ _ t q.style_is))
-      (true_or_false (eqb (style_number_value d.style) v))
+      (λ t. subst (IsOn d r past o) (sym t) (record {
+        ordinal_is = f;
+        day_ordinal_is = g;
+        style_is = style_number_one d.style (style_at_value r (biased_day x)) (eqb-true _ _ t) ∙ ap (style_at_value r) (sym back);
+        day_is = ap day back ∙ biased_day_lem x ∙ e;
+      }))
+      (λ t. subst (IsOn d r past o) (sym t) (λ q. eqb-false _ _ t (ap style_number_value (q.style_is ∙ ap (style_at_value r) back))))
+      (true_or_false (eqb (style_number_value d.style) (style_number_value (style_at_value r (biased_day x)))))
     where
       back : past - 1 ≡ biased_day x
       back = omega arith

@@ -1,57 +1,62 @@
 -- From what the private functions say to the promises.
 -- Assumes nothing.
-use Rattle.std.specs.Prelude.{◌≡◌, refl, Bool, true, false, ℕ, ◌+◌, ◌-◌, ◌*◌, ◌/◌, ◌<◌, ◌≤◌, ◌^◌, eqb, ℤ, pos}
-use Rattle.std.proofs.Common.{sym, ◌∙◌, ap, ap₂, subst, subst₂, ⊎_elim, arith}
+use Rattle.std.specs.Prelude.{◌≡◌, refl, Bool, true, false, cond, ℕ, zero, suc, ◌+◌, ◌-◌, ◌*◌, ◌/◌, ◌%◌, ◌<◌, ◌≤◌, ◌^◌, eqb, ℤ, pos}
+use Rattle.std.proofs.Common.{sym, ◌∙◌, ap, ap₂, subst, subst₂, inl, inr, ⊎_elim, arith, lt-ltb, le-ltb}
+use Rattle.whole.specs.Tests.{lt_or_ge}
 use Rattle.whole.specs.Promise.{unbias}
-use Rattle.whole.specs.Biased.{unbias_injective}
 use Rattle.days.specs.DayByDay as D
-use Rattle.days.specs.DayByDay.{AcceptedReformation, Label, label, Borne, OfYear, Place, Ordinal, DayOrdinal, Is32Bit, JulianStyle, GregorianStyle, SwedishStyle, style, Month}
+use Rattle.days.specs.DayByDay.{AcceptedReformation, Label, label, Borne, OfYear, Place, Ordinal, DayOrdinal, Is32Bit, JulianStyle, GregorianStyle, SwedishStyle, style, Month, month_length}
 use Rattle.days.specs.RisingLabels.{nth_within}
-use Rattle.days.specs.BiasedDays.{day, year, BiasedYear}
+use Rattle.days.specs.BiasedDays.{day_bias, day, year, BiasedYear}
+use Rattle.days.specs.ClosedYear.{year_length, year_most}
+use Rattle.days.specs.RisingSpans.{Stretch}
+use Rattle.days.specs.ReckoningSteps.{month_most}
 use Rattle.days.specs.ClosedStarts.{InYear}
 use Rattle.days.specs.ClosedJulian as J
 use Rattle.days.specs.ClosedGregorian as G
-use Rattle.days.specs.ClosedNumbers.{days_before_value, few_before}
+use Rattle.days.specs.ClosedNumbers.{days_before_value, few_before, ThereIn}
 use Rattle.days.specs.ReformationRules.{all_three}
-use Rattle.days.specs.ReformationTable.{accepts_only, fits_biased}
+use Rattle.days.specs.ReformationTable.{accepts_only, fits_biased, there_too}
 use Rattle.days.specs.AcceptedCalendars.{labels_proper, skipped_nowhere}
-use Rattle.days.specs.ClosedRuns.{Runs, reforming_runs, top, first_day_value, first_cases, first_julian, year_first, month_first_value, julian_month_value, gregorian_month, year_plain, month_plain, ordinal_at, day_ordinal_at, on_old, on_new, in_gap, on_none}
+use Rattle.days.specs.ClosedRuns.{Runs, reforming_runs, top, first_day_value, first_cases, first_julian, first_reform, year_first, month_first_value, julian_month_value, gregorian_month, year_plain, month_plain, year_stretch, ordinal_at, day_ordinal_at, on_old, on_new, day_before, month_over, in_gap, on_none}
 use Rattle.inner.specs.Natural.{biased_day, biased_year_value, Lowers, within, beyond}
 use Rattle.monthdays.specs.Promise.{MonthDayAt, OrdinalOf}
-use Rattle.inner.specs.Laws.{biased_day_lem}
+use Rattle.inner.specs.Laws.{biased_day_lem, julian_alone, gregorian_alone, spot_of_year}
 use Rattle.monthdays.specs.Laws.{month_day_in}
 use Rattle.inner.specs.declared.DayNumber.{DayNumber}
 use Rattle.inner.specs.declared.DayNumber.TheVariants as DayNumber'
 use Rattle.monthdays.specs.declared.DayOrdinal.TheVariants as DayOrdinal'
 use Rattle.fields.specs.declared.Fields.{Fields}
 use Rattle.fields.specs.Promise.{IsSame}
-use Rattle.switches.specs.Promise.{Judges, accepts_biased, refuses_with_1, refuses_with_2, Finds, finds_old, finds_new, finds_gap, finds_none}
+use Rattle.switches.specs.Promise.{Judges, accepts_biased, refuses_with_1, refuses_with_2, YearSpan, Finds, finds_old, finds_new, finds_gap, finds_none, RefusesNonGregorian, taken_away, never_there}
 use Rattle.switches.specs.JudgingLaws.{refused_not}
 use Rattle.switches.specs.declared.reformation.Judgement.TheVariants as Judgement'
 use Rattle.calendar.specs.declared.Calendar.{Calendar}
-use Rattle.calendar.specs.declared.Calendar.TheVariants.{Julian, Gregorian, Reforming, Swedish}
+use Rattle.calendar.specs.declared.Calendar.TheVariants.{Reforming}
 use Rattle.calendar.specs.declared.Style.{Style}
 use Rattle.calendar.specs.declared.Style.TheVariants as Style'
 use Rattle.calendar.specs.declared.Date.{Date}
-use Rattle.calendar.specs.declared.ReformDay.TheVariants as ReformDay'
 use Rattle.calendar.specs.declared.Told.{Told}
 use Rattle.calendar.specs.declared.Told.TheVariants as Told'
 use Rattle.calendar.specs.declared.Chosen.TheVariants as Chosen'
 use Rattle.calendar.specs.declared.Dated.{Dated}
 use Rattle.calendar.specs.declared.Dated.TheVariants as Dated'
 use Rattle.calendar.specs.declared.Switch.TheVariants as Switch'
+use Rattle.calendar.specs.declared.record.DayInYear as P
+use Rattle.calendar.specs.declared.record.Placed.TheVariants as Placed'
+use Rattle.calendar.specs.declared.record.Read.TheVariants as Read'
 use Rattle.inner.specs.declared.Spot as S
 use Rattle.inner.specs.Spots.{At, spot, at_number, at_from, at_few}
 use Rattle.switches.specs.declared.Found.TheVariants as Found'
-use Rattle.switches.specs.Laws.{starts_close, ordinal_sum}
+use Rattle.switches.specs.Laws.{starts_close, Wholly, wholly_old, wholly_new, wholly_none, wholly_days, ordinal_sum, read_at}
 use Rattle.refusals.specs.declared.Refusal.{Refusal}
 use Rattle.ways.specs.declared.Neighbour.TheVariants as Neighbour'
 use Rattle.ways.specs.Promise.{IsNeighbour, there, nowhere}
 use Rattle.calendar.specs.Calendars.{definition_of, labels, Accepted, style_of, IsRecord, Genuine, same_style, style_is_value}
 use Rattle.calendar.specs.Rows.{refuses, passes}
-use Rattle.calendar.specs.Promise.{refused, refused_reformation_value, Reforms, judged, RecordOf, record_of, first_gregorian_value, Given, on_label, OffYear, on_ordinal, AtJdn, AtYmd, AtOrdinal, IsGenuine, TellsDate, Next, ConvertsTo, OfALabel}
-use Rattle.calendar.specs.One.{whole, record_one, turned_or_not}
-use Rattle.calendar.specs.Natural.{SwitchIs, switches_at, switches_oft, no_calendar, LabelledAt, old, new, OnSpot, plain_record_value, SpotAt, style_number_value, fields_of, is_of_style}
+use Rattle.calendar.specs.Promise.{refusal, refused, refused_reformation_value, Reforms, judged, RecordOf, record_of, Given, on_label, ByOrdinal, OffYear, on_ordinal, AtJdn, AtYmd, AtOrdinal, IsGenuine, TellsDate, Next, ConvertsTo, OfALabel}
+use Rattle.calendar.specs.One.{whole, record_one}
+use Rattle.calendar.specs.Natural.{SwitchIs, switches_at, no_calendar, SomeSwitch, LabelledAt, old, new, OnSpot, plain_record_value, Plain, SpotAt, IsPlace, plain_place_value, record_at, ReadsLabel, reads_at, reads_none, LabelAt, LaterLabel, PlacesOrdinal, ordinal_at_place, ordinal_off, LaterOrdinal, pair, TurnsLabel, turns_at, turns_gap, turns_none, TurnsOrdinal, turns_day, Turns, style_at_value, style_number_value, fields_of, is_of_style}
 
 -- ---- Where a calendar switches
 pub switch_accepted : {r : ℤ} {k : ℕ} → Judges r (Judgement'.Accepted k) → SwitchIs (Reforming r) (Switch'.At k)
@@ -71,12 +76,24 @@ at_spot h p q =
     record { biased = h; there = (v.0, v.1, f, t); ordinal_is = q.day_is; adds = p.adds }
 
 -- ---- The style of a day
+pub old_style : {r : ℕ} (k : ℕ) → k < r → Style'.Julian ≡ style_at_value r k
+old_style {r} k h = sym (ap (λ (t : Bool). cond t Style'.Julian Style'.Gregorian) (lt-ltb k r h))
+
+pub new_style : {r : ℕ} (k : ℕ) → r ≤ k → Style'.Gregorian ≡ style_at_value r k
+new_style {r} k h = sym (ap (λ (t : Bool). cond t Style'.Julian Style'.Gregorian) (le-ltb k r h))
+
 module _ (c : Calendar) {r : ℕ} (runs : Runs (definition_of c) r) {k : ℕ} (room : k < top) where
   pub style_old : k < r → style_of (style (definition_of c) (day k)) ≡ Style'.Julian
   style_old h = ap style_of (runs.below k h room).1
 
   pub style_new : r ≤ k → style_of (style (definition_of c) (day k)) ≡ Style'.Gregorian
   style_new h = ap style_of (runs.above k h room).1
+
+  pub style_at : style_of (style (definition_of c) (day k)) ≡ style_at_value r k
+  style_at = ⊎_elim
+      (λ h. style_old h ∙ old_style k h)
+      (λ h. style_new h ∙ new_style k h)
+      (lt_or_ge k r)
 
 -- ---- A day in its calendar
 module _ (c : Calendar) {r : ℕ} (runs : Runs (definition_of c) r) {k y m d o : ℕ} where
@@ -208,10 +225,6 @@ module _ (c : Calendar) {r : ℕ} (runs : Runs (definition_of c) r) {y m d : ℕ
   refused_nowhere (finds_gap t u v) = skipped_nowhere runs.accepted (in_gap runs (biased_year_value y) m d e h t u v)
   refused_nowhere (finds_none n l o) = (on_none runs (biased_year_value y) m d e h n l o).0
 
-pub found_on : {r y m d : ℕ} {s : S.Spot} → Finds r y m d (Found'.At s) → OnSpot r s
-found_on (finds_old g a) = old g a
-found_on (finds_new g a n) = new g a
-
 -- ---- A day that is found, in 32 bits
 pub given_biased : (c : Calendar) {k : ℕ} {n z : ℤ} {d : Date} → Lowers k (DayNumber'.Day n) → IsRecord c n d → Given c z (day k) (Dated'.Date d)
 given_biased c (within w) i = passes (fits_biased w) (record_of i)
@@ -240,9 +253,6 @@ spot_new {r} h g p e q = subst (OnSpot r) (sym q.is) (new g (spot_made h p e q))
 -- ---- What a switch says
 pub switch_runs : (c : Calendar) {r : ℕ} → SwitchIs c (Switch'.At r) → Runs (definition_of c) r
 switch_runs c (switches_at p) = p
-
-pub switch_swedish : (c : Calendar) → SwitchIs c Switch'.Swedish → c ≡ Swedish
-switch_swedish c (switches_oft e) = e
 
 pub switch_made_up : (c : Calendar) → SwitchIs c Switch'.MadeUp → ¬ Accepted c
 switch_made_up c (no_calendar n) = n
@@ -401,22 +411,6 @@ tells_style a {d} (passes g e) = passes g (e ∙ ap Told'.Is (ap (λ (v : Style)
 pub reform_some : {r : ℤ} (x : ℕ) → Accepted (Reforming r) → unbias (2 ^ 31) x ≡ r → 1 ≤ x
 reform_some x (D.reforming_accepted a) e = omega (arith, accepts_only (biased_day x) (omega arith) (subst D.AcceptedReformation (sym (biased_day_lem x ∙ e)) a))
 
--- the first Gregorian day after a Julian one has a day before it
-pub first_some : (c : Calendar) {r : ℤ} (x : ℕ) → Accepted c → first_gregorian_value c ≡ ReformDay'.Day r → unbias (2 ^ 31) x ≡ r → 1 ≤ x
-first_some Julian x a e f = absurd (turned_or_not e)
-first_some Gregorian x a e f = absurd (turned_or_not e)
-first_some (Reforming s) {r} x a e f = let i : s ≡ r = cc in reform_some x a (f ∙ sym i)
-first_some Swedish {r} x a e f = let i : pos 2_361_390 ≡ r = cc in omega (arith, unbias_injective (2 ^ 31) x 2_149_845_038 (f ∙ sym i))
-
-pub first_told : (c : Calendar) {f : Refusal} → first_gregorian_value c ≡ ReformDay'.Refused f → ⊥
-first_told Julian e = let z : ◌≡◌ {A = ℕ} 0 1 = cc in omega arith
-first_told Gregorian e = let z : ◌≡◌ {A = ℕ} 0 1 = cc in omega arith
-first_told (Reforming r) e = let z : ◌≡◌ {A = ℕ} 0 1 = cc in omega arith
-first_told Swedish e = let z : ◌≡◌ {A = ℕ} 0 1 = cc in omega arith
-
-pub jdn_record : {c : Calendar} {n : ℤ} {d : Date} → AtJdn c n (Dated'.Date d) → IsRecord c n d
-jdn_record (passes a (record_of i)) = i
-
 -- ---- The rows of a day that is found: by its label, and by its place in its year
 module _ {c : Calendar} {n z : ℤ} {a : Dated} (acc : Accepted c) (g : Given c z n a) where
   pub label_given : {m d : ℕ} → labels c n ≡ label z m d → AtYmd c z m d a
@@ -436,3 +430,358 @@ module _ {c : Calendar} {n z : ℤ} {a : Dated} (acc : Accepted c) (g : Given c 
 
           high : (t : ℕ) → o ≤ t → t < o → ⊥
           high t j h = omega arith
+
+-- ---- Usual dates
+-- a spot in a year that is wholly in one reckoning
+in_old : {r y k m d o : ℕ} → J.start y + 366 < r → At J.leap_at J.start k y m d o → LabelledAt r k y m d o × (r ≤ k → r + o ≤ k + 1)
+in_old {r} {y} {k} {o = o} g a = let h : k < r = below (J.start y) g a.adds in (old h a, λ i. absurd (never i h))
+  where
+    below : (s : ℕ) → s + 366 < r → s + o ≡ k + 1 → k < r
+    below s g e = omega (arith, at_few a)
+
+    never : r ≤ k → k < r → ⊥
+    never i h = omega arith
+
+in_new : {r y k m d o : ℕ} → r ≤ G.start y → At G.leap_at G.start k y m d o → LabelledAt r k y m d o × (r ≤ k → r + o ≤ k + 1)
+in_new {r} {y} {k} {o = o} g a = (new (from (G.start y) g a.adds) a, λ i. over (G.start y) g a.adds)
+  where
+    from : (s : ℕ) → r ≤ s → s + o ≡ k + 1 → r ≤ k
+    from s g e = omega (arith, at_from a)
+
+    over : (s : ℕ) → r ≤ s → s + o ≡ k + 1 → r + o ≤ k + 1
+    over s g e = omega arith
+
+one : (s o : ℕ) → 1 ≤ o → s + o ≡ s + o - 1 + 1
+one s o h = omega arith
+
+-- by a month and a day of it, and by an ordinal
+module _ (y : ℕ) {r : ℕ} (h : BiasedYear (biased_year_value y)) where
+  pub whole_there : {t : ℕ} {b : Bool} {m d o : ℕ} → Wholly r (biased_year_value y) t b → ThereIn b m d → days_before_value b m + d ≡ o → OnSpot r (spot (t + o - 1) y o m d) × Plain r (spot (t + o - 1) y o m d)
+  whole_there {m = m} {d} (wholly_old g) v e = in_old g (read_at J.leap_at J.start y m d h refl refl v e)
+  whole_there {m = m} {d} (wholly_new f g) v e = in_new g (read_at G.leap_at G.start y m d h refl refl v e)
+
+  pub whole_label : {t : ℕ} {b : Bool} {m d o : ℕ} → Wholly r (biased_year_value y) t b → OrdinalOf b m d (DayOrdinal'.At o) → OnSpot r (spot (t + o - 1) y o m d) × Plain r (spot (t + o - 1) y o m d)
+  whole_label w p = let (v, e) = ordinal_sum p in whole_there w v e
+
+  pub whole_ordinal : {t : ℕ} {b : Bool} {o : ℕ} {s : S.Spot} → Wholly r (biased_year_value y) t b → 1 ≤ o → o ≤ year_length b → SpotAt (t + o - 1) y o b s → OnSpot r s × Plain r s
+  whole_ordinal {o = o} (wholly_old g) from to q = subst (λ (s : S.Spot). OnSpot r s × Plain r s) (sym q.is)
+      (in_old g (spot_made h (record { from = from; to = to; adds = one (J.start (biased_year_value y)) o from }) refl q))
+  whole_ordinal {o = o} (wholly_new f g) from to q = subst (λ (s : S.Spot). OnSpot r s × Plain r s) (sym q.is)
+      (in_new g (spot_made h (record { from = from; to = to; adds = one (G.start (biased_year_value y)) o from }) refl q))
+
+-- ---- Two numbers as one
+pub month_few : {leap_at : ℕ → Bool} {start : ℕ → ℕ} {k y m d o : ℕ} → At leap_at start k y m d o → d < 32
+month_few {leap_at} {y = y} {m} a = omega (arith, a.there.3, month_most (leap_at y) m a.there.0 a.there.1)
+
+pair_first : (i j : ℕ) → j < 4_294_967_296 → pair i j / 4_294_967_296 ≡ i
+pair_first i j h = omega arith
+
+pair_second : (i j : ℕ) → j < 4_294_967_296 → pair i j % 4_294_967_296 ≡ j
+pair_second i j h = omega arith
+
+month_of : (m d : ℕ) → d < 32 → (m * 32 + d) / 32 ≡ m
+month_of m d h = omega arith
+
+day_of : (m d : ℕ) → d < 32 → (m * 32 + d) % 32 ≡ d
+day_of m d h = omega arith
+
+-- ---- Where a day stands
+module _ (c : Calendar) {r y : ℕ} (runs : Runs (definition_of c) r) {p : P.DayInYear} {z : ℤ} (e : year (biased_year_value y) ≡ z) (s : IsPlace r y p) where
+  pub place_some : 1 ≤ p.past
+  place_some = omega (arith, s.past_is)
+
+  biased_past : s.biased ≡ p.past - 1
+  biased_past = omega (arith, s.past_is)
+
+  pub place_record : IsRecord c (day (p.past - 1)) (record_at c z p)
+  place_record = record_is c runs s.labelled (ap day biased_past) e s.ordinal_is s.day_ordinal_is (style_at c runs (omega (arith, labelled_room s.labelled)) ∙ sym s.style_is)
+
+  biased_label : labels c (day s.biased) ≡ label z p.month p.day
+  biased_label = labelled_is c runs s.labelled ∙ ap (λ (z : ℤ). label z p.month p.day) e
+
+  place_label : labels c (day (p.past - 1)) ≡ label z p.month p.day
+  place_label = ap (λ (k : ℕ). labels c (day k)) (sym biased_past) ∙ biased_label
+
+  pub place_ymd : {m d : ℕ} {a : Dated} → p.month ≡ m → p.day ≡ d → Given c z (day (p.past - 1)) a → AtYmd c z m d a
+  place_ymd {a = a} f g q = subst₂ (λ (m d : ℕ). AtYmd c z m d a) f g (label_given runs.accepted q place_label)
+
+  pub place_ordinal : {o : ℕ} {a : Dated} → p.ordinal ≡ o → Given c z (day (p.past - 1)) a → AtOrdinal c z o a
+  place_ordinal {a = a} f g = subst (λ (o : ℕ). AtOrdinal c z o a) f (ordinal_given runs.accepted g (ap (λ (l : Label). l.year) place_label) place)
+    where
+      there : Place (λ d. OfYear z (labels c d)) (day s.biased) p.ordinal
+      there = subst₂ (λ (y : ℤ) (o : ℕ). Place (λ d. OfYear y (labels c d)) (day s.biased) o) (ap (λ (l : Label). l.year) biased_label) s.ordinal_is
+          (ordinal_at runs s.biased (biased_year_value y) p.month p.day (labelled_biased c runs s.labelled) (labelled_is c runs s.labelled))
+
+      place : Place (λ d. OfYear z (labels c d)) (day (p.past - 1)) p.ordinal
+      place = subst (λ (k : ℕ). Place (λ d. OfYear z (labels c d)) (day k) p.ordinal) biased_past there
+
+pub given_place : (c : Calendar) (p : P.DayInYear) {z n : ℤ} → Lowers (p.past - 1) (DayNumber'.Day n) → IsRecord c (day (p.past - 1)) (record_at c z p)
+    → Given c z (day (p.past - 1)) (Dated'.Date (whole c z p.ordinal p.month p.day p.day_ordinal n p.style))
+unfolding whole
+given_place c p {z} w i =
+    given_biased c w (subst (λ (n : ℤ). IsRecord c n (whole c z p.ordinal p.month p.day p.day_ordinal n p.style)) (lowered_day w) i)
+
+-- a spot whose places are those of its own reckoning
+pub plain_stands : {r : ℕ} → SomeSwitch r → (s : S.Spot) → OnSpot r s → Plain r s → {v : Style} → v ≡ style_at_value r s.biased → IsPlace r s.year (plain_place_value v s)
+plain_stands (c, runs) s l p e =
+    record {
+      biased = s.biased;
+      own = s.ordinal;
+      past_is = refl;
+      labelled = l;
+      ordinal_is = plain_ordinal c runs l p;
+      day_ordinal_is = plain_day_ordinal c runs l p;
+      style_is = e;
+    }
+
+pub place_room : {r y : ℕ} {p : P.DayInYear} → IsPlace r y p → p.past < top
+place_room q = omega (arith, q.past_is, labelled_room q.labelled)
+
+pub plain_room : {r y : ℕ} {v : Style} (s : S.Spot) → IsPlace r y (plain_place_value v s) → s.biased < top
+plain_room s q = omega (arith, q.past_is, labelled_room q.labelled)
+
+never_both : {r : ℕ} (k : ℕ) → r ≤ k → k < r → ⊥
+never_both k g h = omega arith
+
+-- ---- From a label
+begun : {r t : ℕ} (y : ℕ) → t ≡ J.start (biased_year_value y) → t < r → r ≤ J.start (biased_year_value y) → G.start (biased_year_value y) < r
+begun {r} y f g i = absurd (never_both (J.start (biased_year_value y)) i (subst (λ (k : ℕ). k < r) f g))
+
+module _ {r m d t : ℕ} {b : Bool} (y : ℕ) (h : BiasedYear (biased_year_value y)) where
+  -- a Julian day before the switch, and a day of a year that begins from the switch on
+  pub early_old : {s : S.Spot} → SomeSwitch r → b ≡ J.leap_at (biased_year_value y) → t ≡ J.start (biased_year_value y) → ReadsLabel b t y m d (Read'.At s) → s.biased < r → LabelAt r y m d (plain_place_value Style'.Julian s)
+  early_old w e f (reads_at {o} v q) g =
+      (plain_stands w (spot (t + o - 1) y o m d) (old g (read_at J.leap_at J.start y m d h e f v q)) (λ i. absurd (never_both (t + o - 1) i g)) (old_style (t + o - 1) g), refl, refl)
+
+  pub early_new : {s : S.Spot} → SomeSwitch r → b ≡ G.leap_at (biased_year_value y) → t ≡ G.start (biased_year_value y) → ReadsLabel b t y m d (Read'.At s) → r ≤ t → LabelAt r y m d (plain_place_value Style'.Gregorian s)
+  early_new w e f (reads_at {o} v q) g =
+      let a = read_at G.leap_at G.start y m d h e f v q in
+      let (l, p) = in_new (subst (λ (k : ℕ). r ≤ k) f g) a in
+      (plain_stands w (spot (t + o - 1) y o m d) l p (new_style (t + o - 1) (omega (arith, at_from a))), refl, refl)
+
+  -- a label that a year has not which is wholly in one reckoning
+  pub old_none : b ≡ J.leap_at (biased_year_value y) → t ≡ J.start (biased_year_value y) → ReadsLabel b t y m d Read'.Nothing → t + 366 < r → Finds r y m d (Found'.Refused (refusal 4 (pos d)))
+  old_none e f (reads_none n) g = let (i, j, o) = wholly_none y (wholly_old (subst (λ (k : ℕ). k + 366 < r) f g)) (subst (λ (b : Bool). ¬ ThereIn b m d) e n) in finds_none i j o
+
+  pub new_none : b ≡ G.leap_at (biased_year_value y) → t ≡ G.start (biased_year_value y) → ReadsLabel b t y m d Read'.Nothing → {u : ℕ} → u ≡ J.start (biased_year_value y) → r ≤ u → r ≤ t → Finds r y m d (Found'.Refused (refusal 4 (pos d)))
+  new_none e f (reads_none n) k i g =
+      let (i, j, o) = wholly_none y (wholly_new (subst (λ (k : ℕ). r ≤ k) k i) (subst (λ (k : ℕ). r ≤ k) f g)) (subst (λ (b : Bool). ¬ ThereIn b m d) e n) in
+      finds_none i j o
+
+  -- one that is looked for from the switch on
+  pub later_none : b ≡ J.leap_at (biased_year_value y) → t ≡ J.start (biased_year_value y) → t < r → ReadsLabel b t y m d Read'.Nothing → LaterLabel r y m d
+  later_none e f g (reads_none n) = (λ i. absurd (n (i.0, i.1, i.2, subst (λ (b : Bool). d ≤ month_length b m) (sym e) i.3)), begun y f g)
+
+  pub later_late : {s : S.Spot} → b ≡ J.leap_at (biased_year_value y) → t ≡ J.start (biased_year_value y) → t < r → ReadsLabel b t y m d (Read'.At s) → r ≤ s.biased → LaterLabel r y m d
+  later_late e f g (reads_at v q) i = (λ j. subst (λ (n : ℕ). r ≤ n) (sym (at_number (read_at J.leap_at J.start y m d h e f v q))) i, begun y f g)
+
+pub later_new : {r m d t u : ℕ} (y : ℕ) → t ≡ J.start (biased_year_value y) → r ≤ t → u ≡ G.start (biased_year_value y) → u < r → LaterLabel r y m d
+later_new {r} {m} {d} y f g e i = (λ j. late (J.start (biased_year_value y)) (days_before_value (J.leap_at (biased_year_value y)) m) (subst (λ (k : ℕ). r ≤ k) f g) j.2, λ j. subst (λ (k : ℕ). k < r) e i)
+  where
+    late : (s b : ℕ) → r ≤ s → 1 ≤ d → r ≤ s + b + d - 1
+    late s b g h = omega arith
+
+-- what is found from the switch on: 4, 5, or the places
+module _ {r m d : ℕ} (y : ℕ) (l : LaterLabel r y m d) where
+  pub later_refused : {t : ℕ} → TurnsLabel r y m d t → t < 4_294_967_296 → Finds r y m d (Found'.Refused (refusal t (pos d)))
+  later_refused (turns_at {i} {j} g a u v e f) h = absurd (large i j u h)
+    where
+      large : (i j : ℕ) → 1 ≤ i → pair i j < 4_294_967_296 → ⊥
+      large i j u h = omega arith
+  later_refused (turns_gap t u) h = finds_gap t (l.0 t) u
+  later_refused (turns_none n o) h = finds_none n l.0 o
+
+  pub later_at : {t w : ℕ} → TurnsLabel r y m d t → 4_294_967_296 ≤ t → w ≡ year_first r (biased_year_value y)
+      → LabelAt r y m d (record { past = w + t / 4_294_967_296; ordinal = t / 4_294_967_296; month = m; day = d; day_ordinal = t % 4_294_967_296; style = Style'.Gregorian })
+  later_at {w = w} (turns_at {k} {o} {i} {j} g a u v e f) h q = (
+    record {
+      biased = k;
+      own = o;
+      past_is = ap (λ (n : ℕ). w + n) (pair_first i j v) ∙ sum (year_first r (biased_year_value y)) q e u;
+      labelled = new g a;
+      ordinal_is = e ∙ sym (pair_first i j v);
+      day_ordinal_is = f ∙ sym (pair_second i j v);
+      style_is = new_style k g;
+    },
+    refl,
+    refl,
+  )
+    where
+      sum : (x : ℕ) → w ≡ x → k + 1 - x ≡ i → 1 ≤ i → w + i ≡ k + 1
+      sum x q e u = omega arith
+  later_at (turns_gap t u) h q = absurd (small h)
+    where
+      small : 4_294_967_296 ≤ 5 → ⊥
+      small h = omega arith
+  later_at (turns_none n o) h q = absurd (small h)
+    where
+      small : 4_294_967_296 ≤ 4 → ⊥
+      small h = omega arith
+
+  -- the first day of its year
+  pub later_first : {t w : ℕ} → t ≡ J.start (biased_year_value y) → (t < r → w ≡ t) × (r ≤ t → w ≡ r) → w ≡ year_first r (biased_year_value y)
+  later_first {t} e (f, g) = ⊎_elim
+      (λ h. f h ∙ e ∙ sym (first_julian r (J.start (biased_year_value y)) (G.start (biased_year_value y)) (subst (λ (k : ℕ). k < r) e h)))
+      (λ h. let i = subst (λ (k : ℕ). r ≤ k) e h in g h ∙ sym (first_reform r (J.start (biased_year_value y)) (G.start (biased_year_value y)) i (l.1 i)))
+      (lt_or_ge t r)
+
+-- ---- From a place in a year
+module _ {r : ℕ} (y : ℕ) {o : ℕ} (h : BiasedYear (biased_year_value y)) where
+  pub off_low : o < 1 → PlacesOrdinal r y o (Placed'.Refused (refusal 6 (pos o)))
+  off_low n = ordinal_off (inl (omega arith))
+
+  pub off_whole : {t : ℕ} {b : Bool} → Wholly r (biased_year_value y) t b → year_length b < o → PlacesOrdinal r y o (Placed'.Refused (refusal 6 (pos o)))
+  off_whole w n = ordinal_off (inr (subst (λ (k : ℕ). k < o) (sym (wholly_days (biased_year_value y) w)) n))
+
+  pub off_span : {a b : ℕ} → YearSpan r (biased_year_value y) a b → 1 ≤ o → b < a + o → PlacesOrdinal r y o (Placed'.Refused (refusal 6 (pos o)))
+  off_span s u n = ordinal_off (inr (omega (arith, s.first_is, s.past_is)))
+
+  -- of a spot that was made of it
+  spot_place : {k : ℕ} {b : Bool} {v : Style} (s : S.Spot) → SomeSwitch r → SpotAt k y o b s → OnSpot r s × Plain r s → v ≡ style_at_value r k → IsPlace r y (plain_place_value v s) × (s.ordinal ≡ o)
+  spot_place {v = v} s w q (l, p) e = (
+    subst (λ (x : ℕ). IsPlace r x (plain_place_value v s)) (ap (λ (s : S.Spot). s.year) q.is) (plain_stands w s l p (e ∙ ap (λ (s : S.Spot). style_at_value r s.biased) (sym q.is))),
+    ap (λ (s : S.Spot). s.ordinal) q.is,
+  )
+
+  pub whole_place : {t : ℕ} {b : Bool} {u : Style} (s : S.Spot) → SomeSwitch r → Wholly r (biased_year_value y) t b → 1 ≤ o → o ≤ year_length b → SpotAt (t + o - 1) y o b s → u ≡ style_at_value r (t + o - 1)
+      → IsPlace r y (plain_place_value u s) × (s.ordinal ≡ o)
+  whole_place s w v from to q e = spot_place s w q (whole_ordinal y h v from to q) e
+
+  -- in the year of a switch
+  module _ {a b : ℕ} (g : SomeSwitch r) (s : YearSpan r (biased_year_value y) a b) (u : 1 ≤ o) (v : a + o ≤ b) where
+    abbrev days_of : Stretch (labels g.0) (OfYear (year (biased_year_value y))) day_bias (year_first r (biased_year_value y)) (year_first r (biased_year_value y + 1))
+    days_of = year_stretch g.1 (biased_year_value y) h
+
+    of_year_lem : OfYear (year (biased_year_value y)) (labels g.0 (day (a + o - 1)))
+    of_year_lem = days_of.inside (a + o - 1) (omega (arith, s.first_is)) (omega (arith, s.past_is))
+
+    room : a + o - 1 < top
+    room = omega (arith, s.past_room)
+
+    pub span_old : {b : Bool} (p : S.Spot) → a + o ≤ r → b ≡ J.leap_at (biased_year_value y) → SpotAt (a + o - 1) y o b p → IsPlace r y (plain_place_value Style'.Julian p) × (p.ordinal ≡ o)
+    span_old p n e q = spot_place p g q (spot_old h below spot_is e q, λ i. absurd (never_both (a + o - 1) (subst (λ (p : S.Spot). r ≤ p.biased) q.is i) below)) (old_style (a + o - 1) below)
+      where
+        below : a + o - 1 < r
+        below = omega arith
+
+        own : InYear J.leap_at J.start (a + o - 1) (biased_year_value y) (a + o - 1 + 1 - J.start (biased_year_value y))
+        own = spot_of_year julian_alone h (subst (OfYear (year (biased_year_value y))) (g.1.below (a + o - 1) below room).0 of_year_lem)
+
+        begins : a ≡ J.start (biased_year_value y)
+        begins = s.first_is ∙ first_julian r (J.start (biased_year_value y)) (G.start (biased_year_value y)) (first (J.start (biased_year_value y)) own.from own.adds)
+          where
+            first : (x : ℕ) → 1 ≤ a + o - 1 + 1 - x → x + (a + o - 1 + 1 - x) ≡ a + o - 1 + 1 → x < r
+            first x i j = omega arith
+
+        spot_is : InYear J.leap_at J.start (a + o - 1) (biased_year_value y) o
+        spot_is = subst (InYear J.leap_at J.start (a + o - 1) (biased_year_value y)) (rest (J.start (biased_year_value y)) begins) own
+          where
+            rest : (x : ℕ) → a ≡ x → a + o - 1 + 1 - x ≡ o
+            rest x e = omega arith
+
+    pub span_later : r < a + o → LaterOrdinal r y o
+    span_later n = record {
+      some = u;
+      room = omega (arith, s.first_is, s.past_room);
+      from = omega (arith, s.first_is);
+      spot_is = subst (λ (x : ℕ). InYear G.leap_at G.start (x + o - 1) (biased_year_value y) (x + o - 1 + 1 - G.start (biased_year_value y))) s.first_is
+          (spot_of_year gregorian_alone h (subst (OfYear (year (biased_year_value y))) (g.1.above (a + o - 1) (omega arith) room).0 of_year_lem));
+    }
+
+    pub turned_place : {t : ℕ} → r < a + o → TurnsOrdinal r y o t
+        → IsPlace r y (record { past = a + o; ordinal = o; month = t / 4_294_967_296 / 32; day = t / 4_294_967_296 % 32; day_ordinal = t % 4_294_967_296; style = Style'.Gregorian })
+    turned_place n (turns_day {k} {g = x} {m} {d} {j} e i f w z) = rw (pair_first (m * 32 + d) j w, pair_second (m * 32 + d) j w, month_of m d f, day_of m d f) (record {
+      biased = k;
+      own = x;
+      past_is = ap (λ (n : ℕ). n + o) s.first_is ∙ sym e;
+      labelled = new (omega (arith, s.first_is)) i;
+      ordinal_is = omega arith;
+      day_ordinal_is = z;
+      style_is = new_style k (omega (arith, s.first_is));
+    })
+
+pub ordinal_placed : {r y o : ℕ} {p : P.DayInYear} → PlacesOrdinal r y o (Placed'.At p) → IsPlace r y p × (p.ordinal ≡ o)
+ordinal_placed (ordinal_at_place i e) = (i, e)
+
+pub off_row : (c : Calendar) {r : ℕ} (runs : Runs (definition_of c) r) (y : ℕ) {o : ℕ} {z : ℤ} {f : Refusal} → BiasedYear (biased_year_value y) → year (biased_year_value y) ≡ z → PlacesOrdinal r y o (Placed'.Refused f) → AtOrdinal c z o (Dated'.Refused f)
+off_row c {r} runs y {o} h e (ordinal_off n) = passes runs.accepted (subst (λ (z : ℤ). ByOrdinal c z o (refused 6 (pos o))) e
+    (refuses (year_first r (biased_year_value y + 1) - year_first r (biased_year_value y), (year_stretch runs (biased_year_value y) h).days, n)))
+
+-- ---- From the switch on, in its year
+module _ {r : ℕ} (y : ℕ) {o w g : ℕ} (h : BiasedYear (biased_year_value y)) (l : LaterOrdinal r y o) (e : w ≡ year_first r (biased_year_value y)) (f : g ≡ G.start (biased_year_value y)) where
+  later_own : InYear G.leap_at G.start (w + o - 1) (biased_year_value y) (w + o - g)
+  later_own = subst₂ (λ (k x : ℕ). InYear G.leap_at G.start k (biased_year_value y) x) (ap (λ (x : ℕ). x + o - 1) (sym e)) (rest (year_first r (biased_year_value y)) (G.start (biased_year_value y)) e f l.some) l.spot_is
+    where
+      rest : (x s : ℕ) → w ≡ x → g ≡ s → 1 ≤ o → x + o - 1 + 1 - s ≡ w + o - g
+      rest x s e f u = omega arith
+
+  pub later_room : (w + o < top) × (g ≤ w + o) × (w + o - g < 2 ^ 32) × (1 ≤ w + o - g)
+  later_room = (omega (arith, l.room, e), part later_own.from, omega (arith, later_own.to, year_most (G.leap_at (biased_year_value y))), later_own.from)
+    where
+      part : 1 ≤ w + o - g → g ≤ w + o
+      part u = omega arith
+
+  pub later_spot : {b : Bool} (s : S.Spot) → b ≡ G.leap_at (biased_year_value y) → SpotAt (w + o - 1) y (w + o - g) b s → OnSpot r s × (r ≤ s.biased)
+  later_spot s i q =
+      let n : r ≤ w + o - 1 = omega (arith, l.from, e) in
+      (spot_new h n later_own i q, subst (λ (s : S.Spot). r ≤ s.biased) (sym q.is) n)
+
+  pub turned_day : {b : Bool} (s : S.Spot) {n : ℕ} → b ≡ G.leap_at (biased_year_value y) → SpotAt (w + o - 1) y (w + o - g) b s → n < 4_294_967_296
+      → s.biased + 1 - month_first_value r (biased_year_value s.year) s.month ≡ n → TurnsOrdinal r y o (pair (s.month * 32 + s.day) n)
+  turned_day s {n} i q u v =
+      let (a, m) = later_spot s i q in
+      let x : s.year ≡ y = ap (λ (s : S.Spot). s.year) q.is in
+      let k : s.biased ≡ w + o - 1 = ap (λ (s : S.Spot). s.biased) q.is in
+      subst (λ (y : ℕ). TurnsOrdinal r y o (pair (s.month * 32 + s.day) n)) x
+      (turns_day (sum k (year_first r (biased_year_value s.year)) (e ∙ ap (λ (y : ℕ). year_first r (biased_year_value y)) (sym x)) l.some) (labelled_new a m) (month_few (labelled_new a m)) u v)
+    where
+      sum : s.biased ≡ w + o - 1 → (z : ℕ) → w ≡ z → 1 ≤ o → s.biased + 1 ≡ z + o
+      sum k z e u = omega arith
+
+pub turning_ordinal : {r y o t : ℕ} (m : ℕ) → m ≡ 0 → TurnsOrdinal r y o t → Turns r y m o t
+turning_ordinal m e p = rw e p
+
+pub turning_label : {r y d t : ℕ} (m : ℕ) → 1 ≤ m → TurnsLabel r y m d t → Turns r y m d t
+turning_label zero h p = absurd (nought h)
+  where
+    nought : 1 ≤ zero → ⊥
+    nought h = omega arith
+turning_label (suc m) h p = p
+
+pub label_turning : {r y d t : ℕ} (m : ℕ) → 1 ≤ m → Turns r y m d t → TurnsLabel r y m d t
+label_turning zero h p = absurd (nought h)
+  where
+    nought : 1 ≤ zero → ⊥
+    nought h = omega arith
+label_turning (suc m) h p = p
+
+-- a label in the Gregorian reckoning
+module _ {r y m d t : ℕ} {b : Bool} (h : BiasedYear (biased_year_value y)) (e : b ≡ G.leap_at (biased_year_value y)) (f : t ≡ G.start (biased_year_value y)) where
+  pub reads_new : {s : S.Spot} → ReadsLabel b t y m d (Read'.At s) → r ≤ s.biased → OnSpot r s
+  reads_new (reads_at v q) g = new g (read_at G.leap_at G.start y m d h e f v q)
+
+  pub reads_room : {s : S.Spot} {j w : ℕ} → ReadsLabel b t y m d (Read'.At s) → r ≤ s.biased → j ≡ J.start (biased_year_value y) → w ≡ first_day_value r j t → (w ≤ s.biased) × (s.biased + 1 - w < 4_294_967_296)
+  reads_room {s} {j} {w} (reads_at {o} v q) g i k =
+      let a = read_at G.leap_at G.start y m d h e f v q in
+      first_cases r j t (λ u z. omega (arith, k, z, i, f, a.adds, at_few a, at_from a, year_close a)) (λ u x z. omega (arith, k, z, i, f, a.adds, at_few a, at_from a)) (λ u x z. omega (arith, k, z, i, f, a.adds, at_few a, at_from a))
+
+  pub turned_none : {k : ℕ} → ReadsLabel b t y m d Read'.Nothing → RefusesNonGregorian r y m d k → TurnsLabel r y m d k
+  turned_none (reads_none n) (taken_away v g) = turns_gap v (month_over g)
+  turned_none (reads_none n) (never_there g) = turns_none (λ v. n (subst (λ (b : Bool). ThereIn b m d) (sym e) v)) g
+
+  pub turned_gap : {s : S.Spot} → ReadsLabel b t y m d (Read'.At s) → s.biased < r → TurnsLabel r y m d 5
+  turned_gap (reads_at v q) g =
+      let a = read_at G.leap_at G.start y m d h e f v q in
+      turns_gap (there_too (biased_year_value y) m d a.there) (day_before a.there (subst (λ (n : ℕ). n < r) (sym (at_number a)) g))
+
+  pub turned_at : {s : S.Spot} {j w n : ℕ} → ReadsLabel b t y m d (Read'.At s) → r ≤ s.biased → j ≡ J.start (biased_year_value y) → w ≡ first_day_value r j t → n < 4_294_967_296
+      → s.biased + 1 - month_first_value r (biased_year_value s.year) s.month ≡ n → TurnsLabel r y m d (pair (s.biased + 1 - w) n)
+  turned_at {w = w} (reads_at {o} v q) g i k u z = turns_at {i = t + o - 1 + 1 - w} g (read_at G.leap_at G.start y m d h e f v q) (omega (arith, reads_room (reads_at v q) g i k)) u (ap (λ (x : ℕ). t + o - 1 + 1 - x) (sym (k ∙ ap₂ (first_day_value r) i f))) z
+
+-- the month of a Gregorian day
+pub month_room : {r : ℕ} (s : S.Spot) {a j : ℕ} → OnSpot r s → r ≤ s.biased → j ≡ julian_month_value (biased_year_value s.year) s.month → a ≡ first_day_value r j (s.biased + 1 - s.day)
+    → (a ≤ s.biased + 1) × (s.biased + 1 - a < 2 ^ 32) × (s.biased + 1 - month_first_value r (biased_year_value s.year) s.month ≡ s.biased + 1 - a)
+month_room {r} s {a} {j} l h e f =
+    let g : a ≡ first_day_value r (julian_month_value (biased_year_value s.year) s.month) (s.biased + 1 - s.day) = f ∙ ap (λ (j : ℕ). first_day_value r j (s.biased + 1 - s.day)) e in
+    let (x, y) = reform_month_room s l h g in
+    (x, y, ap (λ (n : ℕ). s.biased + 1 - n) (sym (g ∙ ap (first_day_value r (julian_month_value (biased_year_value s.year) s.month)) (sym (month_begins (labelled_new l h))))))

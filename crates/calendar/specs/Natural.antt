@@ -1,25 +1,25 @@
 -- What the private functions say, of days and years that are biased as naturals.
-use Rattle.std.specs.Prelude.{◌≡◌, Bool, cond, ℤ, pos, ℕ, ◌+◌, ◌-◌, ◌<◌, ◌≤◌, eqb}
-use Rattle.days.specs.BiasedDays.{year}
+use Rattle.std.specs.Prelude.{◌≡◌, Bool, cond, ◌⊎◌, ℤ, pos, ℕ, zero, suc, ◌+◌, ◌-◌, ◌*◌, ◌<◌, ◌≤◌, ltb, eqb}
+use Rattle.days.specs.BiasedDays.{day, year}
 use Rattle.days.specs.ClosedJulian as J
 use Rattle.days.specs.ClosedGregorian as G
-use Rattle.days.specs.ClosedRuns.{Runs, top}
-use Rattle.inner.specs.Natural.{biased_year_value, Lowers}
-use Rattle.inner.specs.declared.DayNumber.TheVariants as DayNumber'
+use Rattle.days.specs.ClosedNumbers.{There, days_before_value, ThereIn}
+use Rattle.days.specs.ClosedStarts as Starts
+use Rattle.days.specs.ClosedRuns.{Runs, top, ComesBefore, year_first, month_first_value}
+use Rattle.inner.specs.Natural.{biased_year_value}
 use Rattle.monthdays.specs.Promise.{MonthDayAt}
 use Rattle.fields.specs.declared.Fields.{Fields}
-use Rattle.refusals.specs.declared.Refusal.{Refusal}
-use Rattle.refusals.specs.Promise as R
 use Rattle.calendar.specs.declared.Calendar.{Calendar}
-use Rattle.calendar.specs.declared.Calendar.TheVariants as Calendar'
 use Rattle.calendar.specs.declared.Style.{Style}
 use Rattle.calendar.specs.declared.Style.TheVariants as Style'
 use Rattle.calendar.specs.declared.Date.{Date}
-use Rattle.calendar.specs.declared.Dated.{Dated}
-use Rattle.calendar.specs.declared.Dated.TheVariants as Dated'
-use Rattle.calendar.specs.declared.record.Borne.{Borne}
-use Rattle.calendar.specs.declared.record.Usual.{Usual}
-use Rattle.calendar.specs.declared.record.Usual.TheVariants as Usual'
+use Rattle.calendar.specs.declared.record.DayInYear.{DayInYear}
+use Rattle.calendar.specs.declared.record.Placed.{Placed}
+use Rattle.calendar.specs.declared.record.Placed.TheVariants as Placed'
+use Rattle.calendar.specs.declared.record.Read.{Read}
+use Rattle.calendar.specs.declared.record.Read.TheVariants as Read'
+use Rattle.calendar.specs.declared.record.Early.{Early}
+use Rattle.calendar.specs.declared.record.Early.TheVariants as Early'
 use Rattle.calendar.specs.declared.Switch.{Switch}
 use Rattle.calendar.specs.declared.Switch.TheVariants as Switch'
 use Rattle.inner.specs.declared.Spot.{Spot}
@@ -28,20 +28,18 @@ use Rattle.calendar.specs.declared.ReformDate.{ReformDate}
 use Rattle.calendar.specs.declared.ReformDate.TheVariants as ReformDate'
 use Rattle.calendar.specs.Calendars.{definition_of, Accepted}
 use Rattle.calendar.specs.Rows.{Unless}
-use Rattle.calendar.specs.Promise.{refused, made_up, ReformRecord, AtYmd}
+use Rattle.switches.specs.declared.Found.TheVariants as Found'
+use Rattle.switches.specs.Promise.{NoneBelow, NotOver, Finds}
+use Rattle.calendar.specs.Promise.{refusal, made_up, ReformRecord}
 
--- the calendar is Julian below the biased day r and Gregorian from it on; or it is the Swedish one; or it is made up
+-- the calendar is Julian below the biased day r and Gregorian from it on; or it is made up
 pub data SwitchIs (c : Calendar) : Switch → Type 0 where
   switches_at : {r : ℕ} → Runs (definition_of c) r → SwitchIs c (Switch'.At r)
-  switches_oft : c ≡ Calendar'.Swedish → SwitchIs c Switch'.Swedish
   no_calendar : ¬ Accepted c → SwitchIs c Switch'.MadeUp
 
--- what is usual of it: its days below the biased day a have Julian dates, and those of years that begin from b on Gregorian ones; a made_up
--- calendar has no such day
-pub data TurnIs (c : Calendar) : ℕ → ℕ → Type 0 where
-  turns_once : {r : ℕ} → Runs (definition_of c) r → TurnIs c r r
-  turns_oft : c ≡ Calendar'.Swedish → TurnIs c 784_369_151_984 784_369_171_332
-  turns_never : ¬ Accepted c → TurnIs c 0 top
+-- some calendar switches on the biased day r
+abbrev pub SomeSwitch : ℕ → Type 0
+SomeSwitch r = (c : Calendar) × Runs (definition_of c) r
 
 -- day k is the day d of the month m of the year y, and the o-th of that year, in the reckoning that labels it
 pub data LabelledAt (r k y m d o : ℕ) : Type 0 where
@@ -64,34 +62,90 @@ pub record SpotAt (k y o : ℕ) (leap : Bool) (s : Spot) : Type 0 where
   pub is : s ≡ spot k y o s.month s.day
   pub month_day : MonthDayAt leap o s.month s.day
 
--- ---- Usual labels
+-- ---- Where a day stands
 
--- a day in 32 bits before the biased day `past`, with its ordinal and its style
-pub data IsBorne (v : Style) (past o : ℕ) : Usual → Type 0 where
-  borne_at : {n : ℤ} → Lowers (past - 1) (DayNumber'.Day n) → IsBorne v past o (Usual'.At (record { ordinal = o; jdn = n; style = v }))
-  borne_far : Lowers (past - 1) DayNumber'.Outside32 → IsBorne v past o Usual'.Other
+-- the style of the biased day k
+abbrev pub style_at_value : ℕ → ℕ → Style
+style_at_value r k = cond (ltb k r) Style'.Julian Style'.Gregorian
 
--- the record of a day that bears this label, and has the day of the month as its place in the month
-abbrev pub borne_record : Calendar → ℤ → ℕ → ℕ → Borne → Date
-borne_record c y m d b = record { calendar = c; year = y; ordinal = b.ordinal; month = m; day = d; day_ordinal = d; jdn = b.jdn; style = b.style }
+-- a day of the raised year y: its label, its places in its year and its month, and its style
+pub record IsPlace (r y : ℕ) (p : DayInYear) : Type 0 where
+  pub biased : ℕ
+  pub own : ℕ
+  pub past_is : p.past ≡ biased + 1
+  pub labelled : LabelledAt r biased (biased_year_value y) p.month p.day own
+  pub ordinal_is : biased + 1 - year_first r (biased_year_value y) ≡ p.ordinal
+  pub day_ordinal_is : biased + 1 - month_first_value r (biased_year_value y) p.month ≡ p.day_ordinal
+  pub style_is : p.style ≡ style_at_value r biased
 
-pub data UsualLabel (c : Calendar) (y : ℤ) (m d : ℕ) : Usual → Type 0 where
-  usual_at : {b : Borne} → AtYmd c y m d (Dated'.Date (borne_record c y m d b)) → UsualLabel c y m d (Usual'.At b)
-  usual_missing : AtYmd c y m d (refused 4 (pos d)) → UsualLabel c y m d Usual'.Missing
-  not_usual : UsualLabel c y m d Usual'.Other
+-- that of a spot whose places are those of its own reckoning
+abbrev pub plain_place_value : Style → Spot → DayInYear
+plain_place_value v s = record { past = s.biased + 1; ordinal = s.ordinal; month = s.month; day = s.day; day_ordinal = s.day; style = v }
 
--- ---- Refusals in a text
+-- its record
+abbrev pub record_at : Calendar → ℤ → DayInYear → Date
+record_at c z p = record { calendar = c; year = z; ordinal = p.ordinal; month = p.month; day = p.day; day_ordinal = p.day_ordinal; jdn = day (p.past - 1); style = p.style }
 
--- with the place of the number that they are about; 7 and 16 are about none
-abbrev pub in_text_value : ℕ → Refusal → Refusal
-in_text_value p f = cond (eqb f.number 7) f (cond (eqb f.number 16) f (R.refusal f.number p f.value))
+-- ---- From a label
 
-abbrev pub answer_in_text : ℕ → Dated → Dated
-answer_in_text p (Dated'.Date d) = Dated'.Date d
-answer_in_text p (Dated'.Refused f) = Dated'.Refused (in_text_value p f)
+-- its day in a year that starts on a biased day, and is leap or not
+pub data ReadsLabel (leap : Bool) (start y m d : ℕ) : Read → Type 0 where
+  reads_at : {o : ℕ} → ThereIn leap m d → days_before_value leap m + d ≡ o → ReadsLabel leap start y m d (Read'.At (spot (start + o - 1) y o m d))
+  reads_none : ¬ ThereIn leap m d → ReadsLabel leap start y m d Read'.Nothing
 
-abbrev pub InText : ℕ → (Dated → Type 0) → Dated → Type 0
-InText p P d = (a : Dated) × P a × (d ≡ answer_in_text p a)
+abbrev pub LabelAt : ℕ → ℕ → ℕ → ℕ → DayInYear → Type 0
+LabelAt r y m d p = IsPlace r y p × (p.month ≡ m) × (p.day ≡ d)
+
+abbrev pub PlacesLabel : ℕ → ℕ → ℕ → ℕ → Placed → Type 0
+PlacesLabel r y m d (Placed'.At p) = LabelAt r y m d p
+PlacesLabel r y m d (Placed'.Refused f) = Finds r y m d (Found'.Refused f)
+
+-- no Julian day before the switch bears it, and its year does not begin from the switch on
+abbrev pub LaterLabel : ℕ → ℕ → ℕ → ℕ → Type 0
+LaterLabel r y m d = NoneBelow r y m d × (r ≤ J.start (biased_year_value y) → G.start (biased_year_value y) < r)
+
+abbrev pub PlacesEarly : ℕ → ℕ → ℕ → ℕ → Early → Type 0
+PlacesEarly r y m d (Early'.At p) = LabelAt r y m d p
+PlacesEarly r y m d (Early'.Refused f) = Finds r y m d (Found'.Refused f)
+PlacesEarly r y m d Early'.Later = LaterLabel r y m d
+
+-- ---- From a place in a year
+
+-- it is 0, or above the number of the days of the year
+abbrev pub OffSpan : ℕ → ℕ → ℕ → Type 0
+OffSpan r y o = (o ≡ 0) ⊎ (year_first r (biased_year_value y + 1) - year_first r (biased_year_value y) < o)
+
+pub data PlacesOrdinal (r y o : ℕ) : Placed → Type 0 where
+  ordinal_at_place : {p : DayInYear} → IsPlace r y p → p.ordinal ≡ o → PlacesOrdinal r y o (Placed'.At p)
+  ordinal_off : OffSpan r y o → PlacesOrdinal r y o (Placed'.Refused (refusal 6 (pos o)))
+
+-- the o-th day of the year is a Gregorian day from the switch on
+pub record LaterOrdinal (r y o : ℕ) : Type 0 where
+  pub some : 1 ≤ o
+  pub room : year_first r (biased_year_value y) + o < top
+  pub from : r ≤ year_first r (biased_year_value y) + o - 1
+  pub spot_is : Starts.InYear G.leap_at G.start (year_first r (biased_year_value y) + o - 1) (biased_year_value y) (year_first r (biased_year_value y) + o - 1 + 1 - G.start (biased_year_value y))
+
+-- ---- From the switch on, in its year: two numbers below 2^32 as one
+
+abbrev pub pair : ℕ → ℕ → ℕ
+pair a b = a * 4_294_967_296 + b
+
+-- the places of a label that no Julian day before r bears, in its year and its month; 5 where it is skipped, and 4 where it is nowhere
+pub data TurnsLabel (r y m d : ℕ) : ℕ → Type 0 where
+  turns_at : {k o i j : ℕ} → r ≤ k → At G.leap_at G.start k (biased_year_value y) m d o → 1 ≤ i → j < 4_294_967_296
+      → k + 1 - year_first r (biased_year_value y) ≡ i → k + 1 - month_first_value r (biased_year_value y) m ≡ j → TurnsLabel r y m d (pair i j)
+  turns_gap : There J.leap_at (biased_year_value y) m d → ComesBefore r (biased_year_value y) m d → TurnsLabel r y m d 5
+  turns_none : ¬ There G.leap_at (biased_year_value y) m d → NotOver r y m d → TurnsLabel r y m d 4
+
+-- the month and the day of a place in the year, and its place in the month
+pub data TurnsOrdinal (r y o : ℕ) : ℕ → Type 0 where
+  turns_day : {k g m d j : ℕ} → k + 1 ≡ year_first r (biased_year_value y) + o → At G.leap_at G.start k (biased_year_value y) m d g → d < 32 → j < 4_294_967_296
+      → k + 1 - month_first_value r (biased_year_value y) m ≡ j → TurnsOrdinal r y o (pair (m * 32 + d) j)
+
+abbrev pub Turns : ℕ → ℕ → ℕ → ℕ → ℕ → Type 0
+Turns r y zero o = TurnsOrdinal r y o
+Turns r y (suc m) d = TurnsLabel r y (suc m) d
 
 -- ---- Of a calendar and of a date
 
@@ -103,9 +157,6 @@ abbrev pub style_number_value : Style → ℕ
 style_number_value Style'.Julian = 0
 style_number_value Style'.Gregorian = 1
 style_number_value Style'.Swedish = 2
-
-abbrev pub style_by_value : ℕ → Style
-style_by_value n = cond (eqb n 0) Style'.Julian (cond (eqb n 1) Style'.Gregorian Style'.Swedish)
 
 -- the fields of a record that its day number and its calendar determine
 abbrev pub fields_of : Date → Fields

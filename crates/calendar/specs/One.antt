@@ -1,29 +1,24 @@
 -- Two results that a promise allows for one input are equal: a theorem for each promise.
 -- Assumes nothing.
-use Rattle.std.specs.Prelude.{◌≡◌, refl, Bool, ℕ, ℤ, ◌-ℤ◌}
-use Rattle.std.proofs.Common.{sym, ◌∙◌, ap, subst, ⊎_elim, arith}
-use Rattle.whole.specs.Tests.{lt_or_ge}
+use Rattle.std.specs.Prelude.{◌≡◌, refl, Bool, ℕ, ℤ}
+use Rattle.std.proofs.Common.{sym, ◌∙◌, ap, subst}
 use Rattle.whole.specs.One.{whether_one}
-use Rattle.days.specs.DayByDay as D
-use Rattle.days.specs.DayByDay.{Label, label, Timeline, labels_in, Rises, swedish_accepted, style, JulianStyle, GregorianStyle, SwedishStyle}
-use Rattle.days.specs.BiasedDays.{day}
+use Rattle.days.specs.DayByDay.{Label, label, Timeline, labels_in, Rises}
 use Rattle.days.specs.RisingLabels.{once, place_one, nth_one}
 use Rattle.days.specs.AcceptedCalendars.{accepted_rises}
 use Rattle.days.specs.ReformationTable.{judged_one}
-use Rattle.days.specs.ClosedRuns.{Runs, runs_one}
-use Rattle.days.specs.SwedishMonths.{in_moved}
+use Rattle.days.specs.ClosedRuns.{runs_one}
 use Rattle.calendar.specs.declared.Calendar.{Calendar}
 use Rattle.calendar.specs.declared.Calendar.TheVariants as Calendar'
 use Rattle.calendar.specs.declared.Style.{Style}
 use Rattle.calendar.specs.declared.Date.{Date}
 use Rattle.calendar.specs.declared.Switch.TheVariants as Switch'
 use Rattle.calendar.specs.declared.Dated.TheVariants as Dated'
-use Rattle.calendar.specs.declared.ReformDay.TheVariants as ReformDay'
 use Rattle.calendar.specs.declared.ReformDate.TheVariants as ReformDate'
-use Rattle.calendar.specs.Calendars.{definition_of, timeline, Accepted, IsRecordIn, IsRecord, Genuine}
+use Rattle.calendar.specs.Calendars.{timeline, IsRecordIn, Genuine}
 use Rattle.calendar.specs.RowLaws.{One, unless_one, if_one, answers_one}
-use Rattle.calendar.specs.Promise.{outcome_is, Reforms, judged, RecordOfIn, record_of, AtJdn, GivenIn, Given, OnLabelIn, on_label, YmdIn, AtYmd, OnOrdinalIn, on_ordinal, OrdinalIn, AtOrdinal, TellsCalendar, ReformationOf, reform_day_value, ReformRecord, never_turned, reform_record, LastJulian, FirstGregorian, IsGenuine, TellsDate, CountsDate, Next, ConvertsTo}
-use Rattle.calendar.specs.Natural.{SwitchIs, switches_at, switches_oft, no_calendar}
+use Rattle.calendar.specs.Promise.{outcome_is, Reforms, judged, RecordOfIn, record_of, AtJdn, GivenIn, Given, OnLabelIn, on_label, YmdIn, AtYmd, OnOrdinalIn, on_ordinal, OrdinalIn, AtOrdinal, TellsCalendar, ReformationOf, reform_day_value, ReformRecord, never_julian, never_gregorian, reform_record, LastJulian, FirstGregorian, IsGenuine, TellsDate, CountsDate, Next, ConvertsTo}
+use Rattle.calendar.specs.Natural.{SwitchIs, switches_at, no_calendar}
 
 -- ---- A day has one record
 unfoldable pub whole : Calendar → ℤ → ℕ → ℕ → ℕ → ℕ → ℤ → Style → Date
@@ -86,37 +81,10 @@ pub at_ordinal_one : (c : Calendar) (y : ℤ) (o : ℕ) → One (AtOrdinal c y o
 at_ordinal_one c y o = unless_one (λ a. ordinal_in_one (timeline c) c y o)
 
 -- ---- Of a calendar
--- the Swedish calendar is accepted, and it does not switch once: its first of March 1700 is neither a Julian day nor a Gregorian one
-pub swedish_in : {c : Calendar} → c ≡ Calendar'.Swedish → Accepted c
-swedish_in e = subst Accepted (sym e) swedish_accepted
-
-pub swedish_turns_oft : {c : Calendar} {r : ℕ} → c ≡ Calendar'.Swedish → Runs (definition_of c) r → ⊥
-swedish_turns_oft {r = r} e p = ⊎_elim (λ h. not_julian (sym (q.below 784_369_151_984 h (omega arith)).1 ∙ s)) (λ h. not_gregorian (sym (q.above 784_369_151_984 h (omega arith)).1 ∙ s)) (lt_or_ge 784_369_151_984 r)
-  where
-    q : Runs D.Swedish r
-    q = subst (λ (c : Calendar). Runs (definition_of c) r) e p
-
-    s : style D.Swedish (day 784_369_151_984) ≡ SwedishStyle
-    s = (in_moved 784_369_151_984 (omega arith) (omega arith)).1
-
-    not_julian : JulianStyle ≡ SwedishStyle → ⊥
-    not_julian e = let z : ◌≡◌ {A = ℕ} 0 1 = cc in omega arith
-
-    not_gregorian : GregorianStyle ≡ SwedishStyle → ⊥
-    not_gregorian e = let z : ◌≡◌ {A = ℕ} 0 1 = cc in omega arith
-
-pub turned_or_not : {r : ℤ} → ReformDay'.Never ≡ ReformDay'.Day r → ⊥
-turned_or_not e = let z : ◌≡◌ {A = ℕ} 0 1 = cc in omega arith
-
 pub switch_one : (c : Calendar) → One (SwitchIs c)
 switch_one c a b (switches_at p) (switches_at q) = ap Switch'.At (runs_one p q)
-switch_one c a b (switches_at p) (switches_oft e) = absurd (swedish_turns_oft e p)
 switch_one c a b (switches_at p) (no_calendar n) = absurd (n p.accepted)
-switch_one c a b (switches_oft e) (switches_at q) = absurd (swedish_turns_oft e q)
-switch_one c a b (switches_oft e) (switches_oft f) = refl
-switch_one c a b (switches_oft e) (no_calendar n) = absurd (n (swedish_in e))
 switch_one c a b (no_calendar n) (switches_at q) = absurd (n q.accepted)
-switch_one c a b (no_calendar n) (switches_oft e) = absurd (n (swedish_in e))
 switch_one c a b (no_calendar n) (no_calendar m) = refl
 
 pub tells_calendar_one : (c : Calendar) (b : Bool) → One (TellsCalendar c b)
@@ -126,13 +94,9 @@ pub reformation_one : (c : Calendar) → One (ReformationOf c)
 reformation_one c = unless_one (λ a. answers_one (reform_day_value c))
 
 reform_record_one : (before : ℤ) (c : Calendar) → One (ReformRecord before c)
-reform_record_one before c a b (never_turned e) (never_turned f) = refl
-reform_record_one before c a b (never_turned e) (reform_record f q) = absurd (turned_or_not (sym e ∙ f))
-reform_record_one before c a b (reform_record e p) (never_turned f) = absurd (turned_or_not (sym f ∙ e))
-reform_record_one before c a b (reform_record {r} e p) (reform_record {r = s} {d} f q) =
-    let i : ReformDay'.Day r ≡ ReformDay'.Day s = sym e ∙ f in
-    let j : r ≡ s = cc in
-    ap ReformDate'.Date (record_one p (subst (λ (z : ℤ). IsRecord c (z -ℤ before) d) (sym j) q))
+reform_record_one before Calendar'.Julian a b never_julian never_julian = refl
+reform_record_one before Calendar'.Gregorian a b never_gregorian never_gregorian = refl
+reform_record_one before (Calendar'.Reforming r) a b (reform_record p) (reform_record q) = ap ReformDate'.Date (record_one p q)
 
 pub last_julian_one : (c : Calendar) → One (LastJulian c)
 last_julian_one c = unless_one (λ a. reform_record_one _ c)

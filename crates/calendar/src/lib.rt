@@ -1,17 +1,16 @@
-// Calendars and dates: the Julian calendar, the Gregorian calendar, those that switch from one to the other on some day, and the Swedish one.
+// Calendars and dates: the Julian calendar, the Gregorian calendar, and those that switch from one to the other on some day.
 // Every call answers or refuses, for all numbers and records, made-up ones included.
-// For users: all but `switch_of`, `is_accepted`, `ymd_in_text`, `ordinal_in_text`, `next_in_month` and `refusal_of`, which are for the crates above.
+// For users: all but `switch_of`, `next_in_month` and `refusal_of`, which are for the crates above.
 
-ghost use Rattle.std.specs.Prelude.{◌≡◌, pos, ◌-◌, ◌≤◌};
+ghost use Rattle.std.specs.Prelude.{◌≡◌, pos, not, ◌-◌, ◌≤◌};
 ghost use Rattle.std.proofs.Math.IntN.{suc_ℤ, pred_ℤ};
 ghost use Rattle.ways.specs.Promise.{toward};
 ghost use Rattle.days.specs.DayByDay.{weekday, JulianStyle, GregorianStyle};
-ghost use Rattle.calendar.specs.Calendars.{Accepted, is_reforming_value, is_proleptic_value, style_is_value};
-ghost use Rattle.whole.specs.Whether.{Whether};
-ghost use Rattle.calendar.specs.Promise.{refused, refused_reformation_value, Reforms, AtJdn, AtYmd, AtOrdinal, Next, ConvertsTo, IsGenuine, TellsCalendar, TellsDate, CountsDate, ReformationOf, reform_day_value, first_gregorian_value, LastJulian, FirstGregorian};
+ghost use Rattle.calendar.specs.Calendars.{is_reforming_value, style_is_value};
+ghost use Rattle.calendar.specs.Promise.{refused, refused_reformation_value, Reforms, AtJdn, AtYmd, AtOrdinal, Next, ConvertsTo, IsGenuine, TellsCalendar, TellsDate, CountsDate, ReformationOf, reform_day_value, LastJulian, FirstGregorian};
 ghost use Rattle.calendar.specs.One.{whole};
-ghost use Rattle.calendar.specs.InMonth.{NextInMonth, WholeYearIn, IsUsual, IsOn, Movable, moved_by, OneOn, one_on_value};
-ghost use Rattle.calendar.specs.Natural.{SwitchIs, TurnIs, InText, ReformDateOf, fields_of, style_number_value, style_by_value, is_of_style};
+ghost use Rattle.calendar.specs.InMonth.{NextInMonth, IsUsual, IsOn, Movable, moved_by, OneOn, one_on_value};
+ghost use Rattle.calendar.specs.Natural.{SwitchIs, ReformDateOf, fields_of, style_number_value, style_at_value, is_of_style};
 
 use fields::Fields;
 pub use inner::{RATA_DIE_ZERO_JDN, REFORM1582_JDN, UNIX_EPOCH_JDN};
@@ -21,18 +20,14 @@ use switches::reformation::Judgement;
 use ways::{Kind, Neighbour};
 use whole::{lowered, raised, widened};
 
-mod packing;
 mod record;
-mod sweden;
 
-// A calendar that is reforming at a day has Julian dates below it, and Gregorian ones from it on. The Swedish calendar goes a day ahead of the
-// Julian one from 1 March 1700 to 29 February 1712, has a 30 February after that, and is Gregorian from 1 March 1753 on.
+// A calendar that is reforming at a day has Julian dates below it, and Gregorian ones from it on.
 #[derive(Drop)]
 pub enum Calendar {
     Julian,
     Gregorian,
     Reforming(i32),
-    Swedish,
 }
 
 // The calendar by which a day is labelled: printed lists call the Julian one old style, the Gregorian one new style. Swedish is
@@ -84,7 +79,7 @@ pub enum Told {
     Refused(Refusal),
 }
 
-// What a calendar has that turns from Julian to Gregorian dates, and another has not.
+// What a calendar has that reforms, and another has not.
 #[derive(Drop)]
 pub enum ReformDay {
     Day(i32),
@@ -113,7 +108,6 @@ pub enum Near {
 #[derive(Drop)]
 pub enum Switch {
     At(u64),
-    Swedish,
     MadeUp,
 }
 
@@ -127,45 +121,6 @@ pub fn switch_of(calendar: Calendar) -> Switch
             Judgement::Accepted(day) => Switch::At(day),
             Judgement::Refused(_) => Switch::MadeUp,
         },
-        Calendar::Swedish => Switch::Swedish,
-    }
-}
-
-// What is usual of a calendar: days below `old` have Julian dates, and days of years that begin from `new` on Gregorian ones. The two are one
-// day but for the Swedish calendar, and for a made-up one, which has no usual day: none is below 0, and none from 4000000000000 on.
-#[derive(Drop)]
-struct Turn {
-    old: u64,
-    new: u64,
-}
-
-fn turn_of(calendar: Calendar) -> Turn
-    ensures { TurnIs calendar result.old result.new }
-{
-    match switch_of(calendar) {
-        Switch::At(switch) => Turn {
-            old: switch,
-            new: switch,
-        },
-        Switch::Swedish => Turn {
-            old: 784_369_151_984,
-            new: 784_369_171_332,
-        },
-        Switch::MadeUp => Turn {
-            old: 0,
-            new: 4_000_000_000_000,
-        },
-    }
-}
-
-// Whether it is a calendar that an accepted call gives.
-pub fn is_accepted(calendar: Calendar) -> bool
-    ensures { Whether (Accepted calendar) result }
-{
-    match switch_of(calendar) {
-        Switch::At(_) => true,
-        Switch::Swedish => true,
-        Switch::MadeUp => false,
     }
 }
 
@@ -202,9 +157,6 @@ impl Calendar {
 
     pub const GREGORIAN: Calendar = Calendar::Gregorian;
 
-    // The calendar that Sweden kept.
-    pub const SWEDISH: Calendar = Calendar::Swedish;
-
     // The calendar as it was reformed first, in 1582.
     pub const REFORM1582: Calendar = Calendar::Reforming(REFORM1582_JDN);
 
@@ -222,53 +174,65 @@ impl Calendar {
     pub fn at_jdn(self, jdn: i32) -> Dated
         ensures { AtJdn self jdn result }
     {
-        record::of_day(self, jdn)
+        let calendar = self;
+        match switch_of(calendar) {
+            Switch::MadeUp => made_up(),
+            Switch::At(switch) => Dated::Date(record::on_day(calendar, switch, jdn)),
+        }
     }
 
     // The date of a year, a month and a day of the month.
     pub fn at_ymd(self, year: i32, month: u32, day: u32) -> Dated
         ensures { AtYmd self year month day result }
     {
-        record::of_label(self, year, month, day)
+        let calendar = self;
+        match switch_of(calendar) {
+            Switch::MadeUp => made_up(),
+            Switch::At(switch) => record::on_label(calendar, switch, year, month, day),
+        }
     }
 
     // The date of a year and a place in it, from 1.
     pub fn at_ordinal_date(self, year: i32, ordinal: u32) -> Dated
         ensures { AtOrdinal self year ordinal result }
     {
-        record::of_ordinal(self, year, ordinal, 0)
+        let calendar = self;
+        match switch_of(calendar) {
+            Switch::MadeUp => made_up(),
+            Switch::At(switch) => record::on_ordinal(calendar, switch, year, ordinal),
+        }
     }
 
     pub fn is_reforming(self) -> Told
         ensures { TellsCalendar self (is_reforming_value self) result }
     {
         let calendar = self;
-        if is_accepted(calendar) {
-            return Told::Is(reforms(calendar));
+        match switch_of(calendar) {
+            Switch::MadeUp => Told::Refused(refusal_of(16, 0)),
+            Switch::At(_) => Told::Is(reforms(calendar)),
         }
-        Told::Refused(refusal_of(16, 0))
     }
 
     // A calendar is proleptic that has one reckoning throughout.
     pub fn is_proleptic(self) -> Told
-        ensures { TellsCalendar self (is_proleptic_value self) result }
+        ensures { TellsCalendar self (not (is_reforming_value self)) result }
     {
         let calendar = self;
-        if is_accepted(calendar) {
-            return Told::Is(has_one_reckoning(calendar));
+        match switch_of(calendar) {
+            Switch::MadeUp => Told::Refused(refusal_of(16, 0)),
+            Switch::At(_) => Told::Is(!reforms(calendar)),
         }
-        Told::Refused(refusal_of(16, 0))
     }
 
-    // The day at which the calendar is reforming.
+    // The first day with a Gregorian date.
     pub fn reformation(self) -> ReformDay
         ensures { ReformationOf self result }
     {
         let calendar = self;
-        if is_accepted(calendar) {
-            return reform_day(calendar);
+        match switch_of(calendar) {
+            Switch::MadeUp => ReformDay::Refused(refusal_of(16, 0)),
+            Switch::At(_) => reform_day(calendar),
         }
-        ReformDay::Refused(refusal_of(16, 0))
     }
 
     pub fn last_julian_date(self) -> ReformDate
@@ -289,17 +253,17 @@ impl Calendar {
         ensures { ReformDateOf self before result }
     {
         let calendar = self;
-        if is_accepted(calendar) {
-            return match first_gregorian(calendar) {
-                ReformDay::Never => ReformDate::Never,
-                ReformDay::Refused(refusal) => ReformDate::Refused(refusal),
-                ReformDay::Day(r) => match calendar.at_jdn(lowered(raised(r) - before)) {
-                    Dated::Date(date) => ReformDate::Date(date),
-                    Dated::Refused(refusal) => ReformDate::Refused(refusal),
-                },
-            };
+        match switch_of(calendar) {
+            Switch::MadeUp => ReformDate::Refused(refusal_of(16, 0)),
+            Switch::At(switch) => match calendar {
+                Calendar::Julian => ReformDate::Never,
+                Calendar::Gregorian => ReformDate::Never,
+                Calendar::Reforming(r) => {
+                    let jdn = lowered(raised(r) - before);
+                    ReformDate::Date(record::on_day(calendar, switch, jdn))
+                }
+            },
         }
-        ReformDate::Refused(refusal_of(16, 0))
     }
 }
 
@@ -310,18 +274,6 @@ fn reforms(calendar: Calendar) -> bool
         Calendar::Julian => false,
         Calendar::Gregorian => false,
         Calendar::Reforming(_) => true,
-        Calendar::Swedish => false,
-    }
-}
-
-fn has_one_reckoning(calendar: Calendar) -> bool
-    ensures { result ≡ is_proleptic_value calendar }
-{
-    match calendar {
-        Calendar::Julian => true,
-        Calendar::Gregorian => true,
-        Calendar::Reforming(_) => false,
-        Calendar::Swedish => false,
     }
 }
 
@@ -332,36 +284,7 @@ fn reform_day(calendar: Calendar) -> ReformDay
         Calendar::Julian => ReformDay::Never,
         Calendar::Gregorian => ReformDay::Never,
         Calendar::Reforming(r) => ReformDay::Day(r),
-        Calendar::Swedish => ReformDay::Never,
     }
-}
-
-// The first day with a Gregorian date after a Julian one.
-fn first_gregorian(calendar: Calendar) -> ReformDay
-    ensures { result ≡ first_gregorian_value calendar }
-{
-    match calendar {
-        Calendar::Julian => ReformDay::Never,
-        Calendar::Gregorian => ReformDay::Never,
-        Calendar::Reforming(r) => ReformDay::Day(r),
-        Calendar::Swedish => ReformDay::Day(2_361_390),
-    }
-}
-
-// ---- Dates of a text
-
-// The dates of a year, a month and a day, and of a year and a place in it, which stand in a text: a refusal has the place of the number that it
-// is about. 7 and 16 are about none.
-pub fn ymd_in_text(calendar: Calendar, year: i32, month: u32, day: u32, place: usize) -> Dated
-    ensures { InText place (AtYmd calendar year month day) result }
-{
-    record::of_label_in_text(calendar, year, month, day, place)
-}
-
-pub fn ordinal_in_text(calendar: Calendar, year: i32, ordinal: u32, place: usize) -> Dated
-    ensures { InText place (AtOrdinal calendar year ordinal) result }
-{
-    record::of_ordinal(calendar, year, ordinal, place)
 }
 
 // ---- Dates
@@ -509,36 +432,29 @@ fn is_usual_date(date: Date) -> bool
     ensures { IsUsual date result }
 {
     let calendar = date.calendar;
-    let turn = turn_of(calendar);
-    let year = raised(date.year);
-    let julian = inner::julian_start(year);
-    if julian + 366 < turn.old {
-        return in_year(date, 0, julian, inner::is_julian_leap(year));
-    }
-    if julian < turn.old {
-        return false;
-    }
-    let gregorian = inner::gregorian_start(year);
-    if turn.new <= gregorian {
-        return in_year(date, 1, gregorian, inner::is_gregorian_leap(year));
-    }
-    false
-}
-
-// Whether a date is genuine, by the style, the first day and the leap day of its year, which is wholly in one reckoning.
-fn in_year(date: Date, style: u32, first: u64, leap: bool) -> bool
-    requires { WholeYearIn date first leap style }
-    ensures { IsUsual date result }
-{
-    match monthdays::md2ordinal(leap, date.month, date.day) {
-        DayOrdinal::Nothing => false,
-        DayOrdinal::At(ordinal) => is_on(date, style, first + ordinal as u64, ordinal),
+    match switch_of(calendar) {
+        Switch::MadeUp => false,
+        Switch::At(switch) => {
+            let at = switches::year_in(switch, raised(date.year));
+            if at.whole {
+                return match monthdays::md2ordinal(at.leap, date.month, date.day) {
+                    DayOrdinal::Nothing => false,
+                    DayOrdinal::At(ordinal) => is_on(
+                        date,
+                        switch,
+                        at.first + ordinal as u64,
+                        ordinal,
+                    ),
+                };
+            }
+            false
+        }
     }
 }
 
-// Whether a date has this ordinal, the day ordinal that its day has, the day number that is biased before `past`, and this style.
-fn is_on(date: Date, style: u32, past: u64, ordinal: u32) -> bool
-    ensures { IsOn date style past ordinal result }
+// Whether a date has this ordinal, the day ordinal that its day has, the day number that is biased before `past`, and the style of that day.
+fn is_on(date: Date, switch: u64, past: u64, ordinal: u32) -> bool
+    ensures { IsOn date switch past ordinal result }
 {
     if date.ordinal != ordinal {
         return false;
@@ -546,11 +462,12 @@ fn is_on(date: Date, style: u32, past: u64, ordinal: u32) -> bool
     if date.day_ordinal != date.day {
         return false;
     }
-    if raised(date.jdn) as u64 + inner::LEAST_DAY + 1 != past {
+    let today = raised(date.jdn) as u64 + inner::LEAST_DAY;
+    if today + 1 != past {
         return false;
     }
-    let own = date.style;
-    style_number(own) == style
+    let style = date.style;
+    style_number(style) == style_number(style_at(switch, today))
 }
 
 // The record with its day one further.
@@ -651,16 +568,14 @@ fn style_number(style: Style) -> u32
     }
 }
 
-fn style_by(number: u64) -> Style
-    ensures { result ≡ style_by_value number }
+// The style of a biased day.
+fn style_at(switch: u64, biased: u64) -> Style
+    ensures { result ≡ style_at_value switch biased }
 {
-    if number == 0 {
+    if biased < switch {
         return Style::Julian;
     }
-    if number == 1 {
-        return Style::Gregorian;
-    }
-    Style::Swedish
+    Style::Gregorian
 }
 
 // Whether a record, which has to be genuine, is of this style.

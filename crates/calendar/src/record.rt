@@ -1,272 +1,20 @@
-// The record of a day, the day of a label, and the day of a place in a year. What is usual is answered in line: days below `old` of the
-// calendar's turn, and days of years that begin from `new` on. All else is answered out of line, by `slow`.
+// The record of a day, and the day of a label, computed on days and years that are biased as naturals.
 
-ghost use Rattle.std.specs.Prelude.{◌≡◌, ◌≤◌, ◌<◌};
+ghost use Rattle.std.specs.Prelude.{◌≡◌, ◌+◌, ◌-◌, ◌≤◌, ◌<◌};
 ghost use Rattle.days.specs.BiasedDays.{day};
-ghost use Rattle.days.specs.ClosedRuns.{Runs, julian_month_value};
+ghost use Rattle.days.specs.ClosedRuns.{Runs, top, julian_month_value, month_first_value};
 ghost use Rattle.days.specs.DayByDay.{Month};
 ghost use Rattle.inner.specs.Natural.{biased_year_value};
 ghost use Rattle.calendar.specs.Calendars.{definition_of, IsRecord};
-ghost use Rattle.calendar.specs.Promise.{AtJdn, AtYmd, AtOrdinal};
-ghost use Rattle.calendar.specs.Natural.{SpotAt, OnSpot, plain_record_value, InText, UsualLabel, IsBorne, borne_record};
-ghost use Rattle.calendar.specs.Packing.{SlowAnswer};
-ghost use Rattle.calendar.specs.declared.packing.Asked.TheVariants as Asked';
+ghost use Rattle.calendar.specs.Promise.{Given, AtYmd, AtOrdinal};
+ghost use Rattle.calendar.specs.Natural.{SpotAt, OnSpot, plain_record_value, plain_place_value, record_at, ReadsLabel, SomeSwitch, PlacesLabel, PlacesEarly, LaterLabel, PlacesOrdinal, LaterOrdinal, Turns, TurnsLabel, TurnsOrdinal};
 
-use crate::packing::{Asked, in_text, refusal_by, slow};
 use crate::{Calendar, Date, Dated, Style};
 use inner::{DayNumber, Spot};
 use monthdays::DayOrdinal;
-use switches::Found;
+use refusals::Refusal;
 
 // ---- From a day to its record
-
-pub fn of_day(calendar: Calendar, jdn: i32) -> Dated
-    ensures { AtJdn calendar jdn result }
-{
-    let turn = crate::turn_of(calendar);
-    let x = whole::raised(jdn);
-    let today = x as u64 + inner::LEAST_DAY;
-    if today < turn.old {
-        let old = inner::julian_place(x);
-        let s = spot_at(
-            today,
-            old.year,
-            old.ordinal,
-            inner::is_julian_leap(old.year),
-        );
-        return Dated::Date(plain_record(calendar, Style::Julian, s, jdn));
-    }
-    let new = inner::gregorian_place(x);
-    if turn.new + new.ordinal as u64 <= today + 1 {
-        let s = spot_at(
-            today,
-            new.year,
-            new.ordinal,
-            inner::is_gregorian_leap(new.year),
-        );
-        return Dated::Date(plain_record(calendar, Style::Gregorian, s, jdn));
-    }
-    day_by(calendar, jdn, slow(calendar, Asked::Day(jdn)))
-}
-
-// The month and the day of the month from the ordinal.
-fn spot_at(biased: u64, year: u32, ordinal: u32, leap: bool) -> Spot
-    requires { 1 ≤ ordinal }
-    ensures { SpotAt biased year ordinal leap result }
-{
-    let at = monthdays::month_day(leap, ordinal - 1);
-    Spot {
-        biased: biased,
-        year: year,
-        ordinal: ordinal,
-        month: at.month,
-        day: at.day,
-    }
-}
-
-fn plain_record(calendar: Calendar, style: Style, s: Spot, jdn: i32) -> Date
-    ensures { result ≡ plain_record_value calendar style s jdn }
-{
-    Date {
-        calendar: calendar,
-        style: style,
-        year: whole::lowered(s.year),
-        ordinal: s.ordinal,
-        month: s.month,
-        day: s.day,
-        day_ordinal: s.day,
-        jdn: jdn,
-    }
-}
-
-// By the number that is answered for a day that is not usual.
-fn day_by(calendar: Calendar, jdn: i32, t: u64) -> Dated
-    requires { SlowAnswer calendar (Asked'.Day jdn) t }
-    ensures { AtJdn calendar jdn result }
-{
-    if t % 512 == 0 {
-        return crate::made_up();
-    }
-    Dated::Date(Date {
-        calendar: calendar,
-        style: crate::style_by(t / 262_144 % 4),
-        year: whole::lowered((t / 536_870_912) as u32),
-        ordinal: (t / 1_048_576 % 512) as u32,
-        month: (t / 16_384 % 16) as u32,
-        day: (t / 512 % 32) as u32,
-        day_ordinal: (t % 512) as u32,
-        jdn: jdn,
-    })
-}
-
-// ---- From a label to its day
-
-// A label of a usual day, in 32 bits: its number, its ordinal and its style; or that it is missing in a year that is wholly in one reckoning;
-// `Other` says nothing of it.
-#[derive(Drop)]
-struct Borne {
-    ordinal: u32,
-    jdn: i32,
-    style: Style,
-}
-
-#[derive(Drop)]
-enum Usual {
-    At(Borne),
-    Missing,
-    Other,
-}
-
-// The two are written apart, so that each is in line where it is called.
-pub fn of_label(calendar: Calendar, year: i32, month: u32, day: u32) -> Dated
-    ensures { AtYmd calendar year month day result }
-{
-    match usual_label(calendar, year, month, day) {
-        Usual::At(b) => Dated::Date(record_by(calendar, year, month, day, b)),
-        Usual::Missing => crate::refused_count(4, day),
-        Usual::Other => later_label(calendar, year, month, day, 0),
-    }
-}
-
-pub fn of_label_in_text(calendar: Calendar, year: i32, month: u32, day: u32, place: usize) -> Dated
-    ensures { InText place (AtYmd calendar year month day) result }
-{
-    match usual_label(calendar, year, month, day) {
-        Usual::At(b) => Dated::Date(record_by(calendar, year, month, day, b)),
-        Usual::Missing => Dated::Refused(refusals::refusal_at(4, place, day)),
-        Usual::Other => later_label(calendar, year, month, day, place),
-    }
-}
-
-fn record_by(calendar: Calendar, year: i32, month: u32, day: u32, b: Borne) -> Date
-    ensures { result ≡ borne_record calendar year month day b }
-{
-    let style = b.style;
-    Date {
-        calendar: calendar,
-        style: style,
-        year: year,
-        ordinal: b.ordinal,
-        month: month,
-        day: day,
-        day_ordinal: day,
-        jdn: b.jdn,
-    }
-}
-
-fn usual_label(calendar: Calendar, year: i32, month: u32, day: u32) -> Usual
-    ensures { UsualLabel calendar year month day result }
-{
-    let turn = crate::turn_of(calendar);
-    if !monthdays::is_month(month) {
-        return Usual::Other;
-    }
-    let y = whole::raised(year);
-    let old = inner::julian_start(y);
-    if old < turn.old {
-        return match monthdays::md2ordinal(inner::is_julian_leap(y), month, day) {
-            DayOrdinal::Nothing => {
-                if old + 366 < turn.old {
-                    return Usual::Missing;
-                }
-                Usual::Other
-            }
-            DayOrdinal::At(ordinal) => {
-                let past = old + ordinal as u64;
-                if past <= turn.old {
-                    return borne_before(Style::Julian, past, ordinal);
-                }
-                Usual::Other
-            }
-        };
-    }
-    let new = inner::gregorian_start(y);
-    if turn.new <= new {
-        return match monthdays::md2ordinal(inner::is_gregorian_leap(y), month, day) {
-            DayOrdinal::Nothing => Usual::Missing,
-            DayOrdinal::At(ordinal) => borne_before(
-                Style::Gregorian,
-                new + ordinal as u64,
-                ordinal,
-            ),
-        };
-    }
-    Usual::Other
-}
-
-// By the biased day past it.
-fn borne_before(style: Style, past: u64, ordinal: u32) -> Usual
-    requires { 1 ≤ past }
-    ensures { IsBorne style past ordinal result }
-{
-    match inner::day_number(past - 1) {
-        DayNumber::Day(jdn) => Usual::At(Borne {
-            ordinal: ordinal,
-            jdn: jdn,
-            style: style,
-        }),
-        DayNumber::Nothing => Usual::Other,
-        DayNumber::Outside32 => Usual::Other,
-    }
-}
-
-// A label that is not usual.
-fn later_label(calendar: Calendar, year: i32, month: u32, day: u32, place: usize) -> Dated
-    ensures { InText place (AtYmd calendar year month day) result }
-{
-    let t = slow(calendar, Asked::Label(year, month, day));
-    if t % 512 == 0 {
-        return Dated::Refused(in_text(refusal_by(t), place));
-    }
-    Dated::Date(Date {
-        calendar: calendar,
-        style: crate::style_by(t / 262_144 % 4),
-        year: year,
-        ordinal: (t / 1_048_576 % 512) as u32,
-        month: month,
-        day: day,
-        day_ordinal: (t % 512) as u32,
-        jdn: whole::lowered((t / 536_870_912) as u32),
-    })
-}
-
-// ---- From a place in a year to its day
-
-pub fn of_ordinal(calendar: Calendar, year: i32, ordinal: u32, place: usize) -> Dated
-    ensures { InText place (AtOrdinal calendar year ordinal) result }
-{
-    let turn = crate::turn_of(calendar);
-    let at = switches::year_in(turn.old, turn.new, whole::raised(year));
-    if at.whole {
-        if 1 <= ordinal {
-            if ordinal <= inner::days_in_year(at.leap) {
-                let s = monthdays::month_day(at.leap, ordinal - 1);
-                let style = crate::style_by(at.reckoning as u64);
-                return match borne_before(style, at.first + ordinal as u64, ordinal) {
-                    Usual::At(b) => Dated::Date(record_by(calendar, year, s.month, s.day, b)),
-                    Usual::Missing => crate::refused_year(year),
-                    Usual::Other => crate::refused_year(year),
-                };
-            }
-        }
-    }
-    let t = slow(calendar, Asked::Place(year, ordinal));
-    if t % 512 == 0 {
-        return Dated::Refused(in_text(refusal_by(t), place));
-    }
-    Dated::Date(Date {
-        calendar: calendar,
-        style: crate::style_by(t / 262_144 % 4),
-        year: year,
-        ordinal: ordinal,
-        month: (t / 16_384 % 16) as u32,
-        day: (t / 512 % 32) as u32,
-        day_ordinal: (t % 512) as u32,
-        jdn: whole::lowered((t / 536_870_912) as u32),
-    })
-}
-
-// ---- A calendar that switches once
 
 pub fn on_day(calendar: Calendar, switch: u64, jdn: i32) -> Date
     requires { Runs (definition_of calendar) switch }
@@ -294,6 +42,21 @@ pub fn on_day(calendar: Calendar, switch: u64, jdn: i32) -> Date
     record_of(calendar, switch, s, jdn)
 }
 
+// The month and the day of the month from the ordinal.
+fn spot_at(biased: u64, year: u32, ordinal: u32, leap: bool) -> Spot
+    requires { 1 ≤ ordinal }
+    ensures { SpotAt biased year ordinal leap result }
+{
+    let at = monthdays::month_day(leap, ordinal - 1);
+    Spot {
+        biased: biased,
+        year: year,
+        ordinal: ordinal,
+        month: at.month,
+        day: at.day,
+    }
+}
+
 // A Julian day has its places in the Julian year, and so has a Gregorian day in a year that begins from the switch on.
 fn record_of(calendar: Calendar, switch: u64, s: Spot, jdn: i32) -> Date
     requires { Runs (definition_of calendar) switch × OnSpot switch s × (day s.biased ≡ jdn) }
@@ -306,6 +69,21 @@ fn record_of(calendar: Calendar, switch: u64, s: Spot, jdn: i32) -> Date
         return plain_record(calendar, Style::Gregorian, s, jdn);
     }
     reform_record(calendar, switch, s, jdn)
+}
+
+fn plain_record(calendar: Calendar, style: Style, s: Spot, jdn: i32) -> Date
+    ensures { result ≡ plain_record_value calendar style s jdn }
+{
+    Date {
+        calendar: calendar,
+        style: style,
+        year: whole::lowered(s.year),
+        ordinal: s.ordinal,
+        month: s.month,
+        day: s.day,
+        day_ordinal: s.day,
+        jdn: jdn,
+    }
 }
 
 // A Gregorian day of a year that began before the switch: its places count the Julian days of that year and month too.
@@ -347,40 +125,289 @@ fn julian_month(year: u32, month: u32) -> u64
     }
 }
 
-// The day of a label.
+// ---- Where a day stands
+
+// What is usual, the Julian days before a switch and most refusals are found in line. The days from a switch on, in its year, and the labels
+// that are refused there, are found out of line, by `turning`.
+
+// The biased day past it, its label, its places in its year and its month, and its style.
+#[derive(Drop)]
+struct DayInYear {
+    past: u64,
+    ordinal: u32,
+    month: u32,
+    day: u32,
+    day_ordinal: u32,
+    style: Style,
+}
+
+#[derive(Drop)]
+enum Placed {
+    At(DayInYear),
+    Refused(Refusal),
+}
+
+// The record of a day, or that 32 bits do not hold its number.
+fn given(calendar: Calendar, year: i32, p: DayInYear) -> Dated
+    requires { (1 ≤ p.past) × IsRecord calendar (day (p.past - 1)) (record_at calendar year p) }
+    ensures { Given calendar year (day (p.past - 1)) result }
+{
+    let style = p.style;
+    match inner::day_number(p.past - 1) {
+        DayNumber::Day(jdn) => Dated::Date(Date {
+            calendar: calendar,
+            style: style,
+            year: year,
+            ordinal: p.ordinal,
+            month: p.month,
+            day: p.day,
+            day_ordinal: p.day_ordinal,
+            jdn: jdn,
+        }),
+        DayNumber::Nothing => crate::refused_year(year),
+        DayNumber::Outside32 => crate::refused_year(year),
+    }
+}
+
+// The places of a day in its own reckoning.
+fn plain_place(style: Style, s: Spot) -> DayInYear
+    requires { s.biased < top }
+    ensures { result ≡ plain_place_value style s }
+{
+    DayInYear {
+        past: s.biased + 1,
+        ordinal: s.ordinal,
+        month: s.month,
+        day: s.day,
+        day_ordinal: s.day,
+        style: style,
+    }
+}
+
+#[derive(Drop)]
+enum Read {
+    At(Spot),
+    Nothing,
+}
+
+// The day of a label in a reckoning, by the first day of the year and whether that is leap.
+fn reading(leap: bool, start: u64, year: u32, month: u32, day: u32) -> Read
+    requires { start < 2_000_000_000_000 }
+    ensures { ReadsLabel leap start year month day result }
+{
+    match monthdays::md2ordinal(leap, month, day) {
+        DayOrdinal::Nothing => Read::Nothing,
+        DayOrdinal::At(ordinal) => Read::At(Spot {
+            biased: start + ordinal as u64 - 1,
+            year: year,
+            ordinal: ordinal,
+            month: month,
+            day: day,
+        }),
+    }
+}
+
+// ---- From a label to its day
+
 pub fn on_label(calendar: Calendar, switch: u64, year: i32, month: u32, day: u32) -> Dated
     requires { Runs (definition_of calendar) switch }
     ensures { AtYmd calendar year month day result }
 {
     if monthdays::is_month(month) {
-        return match switches::find(switch, whole::raised(year), month, day) {
-            Found::Refused(refusal) => Dated::Refused(refusal),
-            Found::At(s) => match inner::day_number(s.biased) {
-                DayNumber::Day(jdn) => Dated::Date(record_of(calendar, switch, s, jdn)),
-                DayNumber::Nothing => crate::refused_year(year),
-                DayNumber::Outside32 => crate::refused_year(year),
-            },
+        return match label_place(switch, whole::raised(year), month, day) {
+            Placed::At(p) => given(calendar, year, p),
+            Placed::Refused(refusal) => Dated::Refused(refusal),
         };
     }
     crate::refused_count(3, month)
 }
 
-// The day of a place in a year.
+fn label_place(switch: u64, year: u32, month: u32, day: u32) -> Placed
+    requires { SomeSwitch switch × Month month }
+    ensures { PlacesLabel switch year month day result }
+{
+    match plain_label(switch, year, month, day) {
+        Early::At(p) => Placed::At(p),
+        Early::Refused(refusal) => Placed::Refused(refusal),
+        Early::Later => later_label(switch, year, month, day),
+    }
+}
+
+// What is answered in line, or that the label is looked for from the switch on, in its year.
+#[derive(Drop)]
+enum Early {
+    At(DayInYear),
+    Refused(Refusal),
+    Later,
+}
+
+// A Julian day before the switch, and a day of a year that is wholly in one reckoning.
+fn plain_label(switch: u64, year: u32, month: u32, day: u32) -> Early
+    requires { SomeSwitch switch }
+    ensures { PlacesEarly switch year month day result }
+{
+    let old = inner::julian_start(year);
+    if old < switch {
+        return match reading(inner::is_julian_leap(year), old, year, month, day) {
+            Read::Nothing => {
+                if old + 366 < switch {
+                    return Early::Refused(refusals::refusal_with(4, day));
+                }
+                Early::Later
+            }
+            Read::At(s) => {
+                if s.biased < switch {
+                    return Early::At(plain_place(Style::Julian, s));
+                }
+                Early::Later
+            }
+        };
+    }
+    let new = inner::gregorian_start(year);
+    if switch <= new {
+        return match reading(inner::is_gregorian_leap(year), new, year, month, day) {
+            Read::Nothing => Early::Refused(refusals::refusal_with(4, day)),
+            Read::At(s) => Early::At(plain_place(Style::Gregorian, s)),
+        };
+    }
+    Early::Later
+}
+
+// The label from the switch on; its year begins on its first Julian day or on the switch.
+fn later_label(switch: u64, year: u32, month: u32, day: u32) -> Placed
+    requires { Month month × LaterLabel switch year month day }
+    ensures { PlacesLabel switch year month day result }
+{
+    let t = turning(switch, year, month, day);
+    if t < PAIR {
+        return Placed::Refused(refusals::refusal_with(t as u32, day));
+    }
+    let first = earlier(inner::julian_start(year), switch);
+    Placed::At(DayInYear {
+        past: first + t / PAIR,
+        ordinal: (t / PAIR) as u32,
+        month: month,
+        day: day,
+        day_ordinal: (t % PAIR) as u32,
+        style: Style::Gregorian,
+    })
+}
+
+fn earlier(a: u64, b: u64) -> u64
+    ensures { (a < b → result ≡ a) × (b ≤ a → result ≡ b) }
+{
+    if a < b {
+        return a;
+    }
+    b
+}
+
+// ---- From a place in a year to its day
+
 pub fn on_ordinal(calendar: Calendar, switch: u64, year: i32, ordinal: u32) -> Dated
     requires { Runs (definition_of calendar) switch }
     ensures { AtOrdinal calendar year ordinal result }
 {
-    let span = switches::year_span(switch, whole::raised(year));
-    let past = span.first + ordinal as u64;
+    match ordinal_place(switch, whole::raised(year), ordinal) {
+        Placed::At(p) => given(calendar, year, p),
+        Placed::Refused(refusal) => Dated::Refused(refusal),
+    }
+}
+
+// A year that is wholly in one reckoning comes first, then the Julian days of the year of a switch.
+fn ordinal_place(switch: u64, year: u32, ordinal: u32) -> Placed
+    requires { SomeSwitch switch }
+    ensures { PlacesOrdinal switch year ordinal result }
+{
     if ordinal < 1 {
-        return crate::refused_count(6, ordinal);
+        return Placed::Refused(refusals::refusal_with(6, ordinal));
     }
+    let at = switches::year_in(switch, year);
+    if at.whole {
+        if inner::days_in_year(at.leap) < ordinal {
+            return Placed::Refused(refusals::refusal_with(6, ordinal));
+        }
+        let biased = at.first + ordinal as u64 - 1;
+        let s = spot_at(biased, year, ordinal, at.leap);
+        return Placed::At(plain_place(crate::style_at(switch, biased), s));
+    }
+    let span = switches::year_span(switch, year);
+    let past = span.first + ordinal as u64;
     if span.past < past {
-        return crate::refused_count(6, ordinal);
+        return Placed::Refused(refusals::refusal_with(6, ordinal));
     }
-    match inner::day_number(past - 1) {
-        DayNumber::Day(jdn) => Dated::Date(on_day(calendar, switch, jdn)),
-        DayNumber::Nothing => crate::refused_year(year),
-        DayNumber::Outside32 => crate::refused_year(year),
+    if past <= switch {
+        let s = spot_at(past - 1, year, ordinal, inner::is_julian_leap(year));
+        return Placed::At(plain_place(Style::Julian, s));
     }
+    let t = turning(switch, year, 0, ordinal);
+    Placed::At(DayInYear {
+        past: past,
+        ordinal: ordinal,
+        month: (t / PAIR / 32) as u32,
+        day: (t / PAIR % 32) as u32,
+        day_ordinal: (t % PAIR) as u32,
+        style: Style::Gregorian,
+    })
+}
+
+// ---- From the switch on, in its year
+
+// Two numbers below it come back as one, which a register holds: a struct comes back through memory.
+const PAIR: u64 = 4_294_967_296;
+
+// Of a day of a month, or with month 0 of a day of the whole year. It has two callers, and so the compiler leaves it out of the way of the
+// usual dates.
+fn turning(switch: u64, year: u32, month: u32, number: u32) -> u64
+    requires { month ≡ 0 → LaterOrdinal switch year number }
+    ensures { Turns switch year month number result }
+{
+    if month == 0 {
+        return turned_ordinal(switch, year, number);
+    }
+    turned_label(switch, year, month, number)
+}
+
+// The places of a label in its year and its month, which count the Julian days too; 4 where it is nowhere, and 5 where it is skipped.
+fn turned_label(switch: u64, year: u32, month: u32, day: u32) -> u64
+    ensures { TurnsLabel switch year month day result }
+{
+    let start = inner::gregorian_start(year);
+    match reading(inner::is_gregorian_leap(year), start, year, month, day) {
+        Read::Nothing => switches::non_gregorian_refusal(switch, year, month, day) as u64,
+        Read::At(s) => {
+            if s.biased < switch {
+                return 5;
+            }
+            let first = switches::first_day(switch, inner::julian_start(year), start);
+            (s.biased + 1 - first) * PAIR + month_place(switch, s)
+        }
+    }
+}
+
+// The month and the day of an ordinal, 32 times the one and the other, and the place in the month.
+fn turned_ordinal(switch: u64, year: u32, ordinal: u32) -> u64
+    requires { LaterOrdinal switch year ordinal }
+    ensures { TurnsOrdinal switch year ordinal result }
+{
+    let start = inner::gregorian_start(year);
+    let first = switches::first_day(switch, inner::julian_start(year), start);
+    let past = first + ordinal as u64;
+    let s = spot_at(
+        past - 1,
+        year,
+        (past - start) as u32,
+        inner::is_gregorian_leap(year),
+    );
+    (s.month as u64 * 32 + s.day as u64) * PAIR + month_place(switch, s)
+}
+
+// The place in its month of a Gregorian day from the switch on.
+fn month_place(switch: u64, s: Spot) -> u64
+    requires { OnSpot switch s × (switch ≤ s.biased) }
+    ensures { (result < 4_294_967_296) × (s.biased + 1 - month_first_value switch (biased_year_value s.year) s.month ≡ result) }
+{
+    let past = s.biased + 1;
+    let first = switches::first_day(switch, julian_month(s.year, s.month), past - s.day as u64);
+    past - first
 }

@@ -144,9 +144,6 @@ fn write_calendar(calendar: Calendar) {
             io::write_all(1, b"G");
         }
         Calendar::Reforming(r) => write_whole(whole::widened(r)),
-        Calendar::Swedish => {
-            io::write_all(1, b"S");
-        }
     }
 }
 

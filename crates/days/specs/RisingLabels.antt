@@ -95,7 +95,7 @@ module _ {P : ℤ → Type 0} where
       both h i = place_one p.place (subst (λ (z : ℤ). Place P z l) (antisym (no_later q p i) (no_later p q h)) q.place)
 
   -- one day has the k-th place, and k is from 1 to the number of days
-  pub some : {n : ℤ} {k : ℕ} → P n → Place P n k → 1 ≤ k
+  some : {n : ℤ} {k : ℕ} → P n → Place P n k → 1 ≤ k
   some {n} {k} p q = ⊎_elim (λ h. h) (λ h. absurd (q.none_before n (eq_le (sym (ap (λ (j : ℕ). n -ℤ pos j) (zero_is k h) ∙ +ℤ_idr n))) p)) (N.lt_or_ge 0 k)
     where
       zero_is : (k : ℕ) → k ≤ 0 → k ≡ 0

@@ -8,7 +8,7 @@ use Rattle.std.specs.Int.Signed.{<ℤ_irrefl}
 use Rattle.whole.specs.Integers.{lt_or_ge, lt_le, antisym, back_lt, back_le}
 use Rattle.whole.specs.Tests as N
 use Rattle.days.specs.DayByDay.{Label, ◌≺◌, by_year, by_month, by_day, Timeline, labels_in, Rising, Rises, OfMonth, Place, Ordinal, DayOrdinal}
-use Rattle.days.specs.RisingLabels.{Run, year_run, month_run, no_earlier_year, some}
+use Rattle.days.specs.RisingLabels.{Run, year_run, month_run, no_earlier_year}
 use Rattle.days.specs.RisingSpans.{Proper}
 use Rattle.days.specs.RisingTimelines.{rising_rises, timeline_proper, timeline_most}
 
@@ -77,10 +77,6 @@ module _ {f : ℤ → Label} (up : Rises f) (proper : (n : ℤ) → Proper (f n)
 
   pub year_falls : (f (n -ℤ pos 400)).year <ℤ (f n).year
   year_falls = ⊎_elim (λ h. h) (λ h. absurd (not_of_year (antisym (no_earlier_year up (back_le n 400)) h))) (lt_or_ge (f (n -ℤ pos 400)).year (f n).year)
-
-  -- so its places in its year and its month are few
-  pub place_few : {P : ℤ → Type 0} {k : ℕ} → P n → ((a : ℤ) → P a → (f a).year ≡ (f n).year) → Place P n k → (1 ≤ k) × (k ≤ 400)
-  place_few {k = k} here of_year_lem p = (some here p, ⊎_elim (λ h. absurd (not_of_year (of_year_lem (n -ℤ pos 400) (p.counted 400 h)))) (λ h. h) (N.lt_or_ge 400 k))
 
 module _ {t : Timeline} (r : Rising t) (n : ℤ) where
   of_year_or_not : (d : ℤ) → ((labels_in t d).year ≡ (labels_in t n).year) ⊎ ((labels_in t d).year ≡ (labels_in t n).year → ⊥)

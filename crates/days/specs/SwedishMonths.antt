@@ -11,7 +11,7 @@ use Rattle.std.proofs.Math.IntN.{suc_ℤ}
 use Rattle.whole.specs.Tests as N
 use Rattle.whole.specs.Biased.{unbias_add, unbias_injective, unbias_suc}
 use Rattle.whole.specs.Integers.{lt_le, unbias_up, unbias_down, unbias_le}
-use Rattle.days.specs.DayByDay.{Label, label, label_of, julian, gregorian, month_length, ◌≺◌, by_year, by_month, by_day, SwedishStyle, JulianStyle, GregorianStyle, Swedish, labels, style, timeline, Rises, Reckoning, OfYear, OfMonth, YearLength, Place, Ordinal, DayOrdinal, splice, Borne, SwitchDay, this, later, Skipped, Missing}
+use Rattle.days.specs.DayByDay.{Label, label, label_of, julian, gregorian, month_length, ◌≺◌, by_year, by_month, by_day, SwedishStyle, JulianStyle, GregorianStyle, Swedish, labels, style, timeline, Rises, Reckoning, OfYear, OfMonth, YearLength, Ordinal, splice, Borne, SwitchDay, this, later, Skipped, Missing}
 use Rattle.days.specs.BiasedDays.{day_bias, year_bias, day, year}
 use Rattle.days.specs.ClosedStarts.{Starts}
 use Rattle.days.specs.ClosedJulian as J
@@ -21,7 +21,7 @@ use Rattle.days.specs.ClosedNumbers.{There, number, numbered, days_before_value,
 use Rattle.days.specs.ReckoningLabels.{julian_rises, gregorian_rises}
 use Rattle.days.specs.RisingTimelines.{in_era, timeline_proper}
 use Rattle.days.specs.ReckoningSteps.{month_some}
-use Rattle.days.specs.RisingSpans.{Proper, next_month, Stretch, stretch, first_at, year_span, month_span_lem, biased_from}
+use Rattle.days.specs.RisingSpans.{next_month, Stretch, stretch, first_at, year_span, month_span_lem, biased_from}
 use Rattle.days.specs.LabelOrder.{≺-trans}
 use Rattle.days.specs.SkippedLabels.{skippable_julian}
 use Rattle.days.specs.Swedish.{sweden, first_era, moved_era_lem, leap_era_lem, again_era, reformed_era, swedish_rises, last_before_1700, first_moved, last_moved, thirtieth, first_julian_again, last_julian_1753, first_gregorian_1753}
@@ -332,18 +332,6 @@ module _ (y : ℕ) (h : 352 ≤ y) where
       (first_at swedish_rises (swedish_past y 12 (omega arith) (omega arith) t))
       (swedish_from y 1 (omega arith) (omega arith) h s)
 
--- the place of a day in its month is the day of the month
-pub swedish_day_ordinal : (k y m d : ℕ) → 352 ≤ y → labels Swedish (day k) ≡ label (year y) m d → DayOrdinal (labels Swedish) (day k) d
-swedish_day_ordinal k y m d h e =
-    let p = subst (λ (l : Label). Proper l) e (timeline_proper (timeline Swedish) (day k)) in
-    let (a, n, s) = swedish_month y m p.0 p.1 in
-    let (from, to, i) = (swedish_month_days y h m p.0 p.1 s).here k (ap (λ (l : Label). l.year) e, ap (λ (l : Label). l.month) e) in
-    let f : label (year y) m (k + 1 - a) ≡ label (year y) m d = sym (swedish_day y m p.0 p.1 s (k + 1 - a) (omega arith) (omega arith)) ∙ ap (λ (j : ℕ). labels Swedish (day j)) (back a from) ∙ e in
-    subst₂ (λ (l : Label) (o : ℕ). Place (λ n. OfMonth l.year l.month (labels Swedish n)) (day k) o) (sym e) (ap (λ (l : Label). l.day) f) i
-  where
-    back : (a : ℕ) → a ≤ k → a + (k + 1 - a) - 1 ≡ k
-    back a g = omega arith
-
 -- ---- Labels that no day bears
 module _ (y m : ℕ) (h : 352 ≤ y) (u : 1 ≤ m) (v : m ≤ 12) {a n : ℕ} (s : SwedishMonth y m a n) (d : ℕ) where
   pub swedish_nowhere : (d ≡ 0) ⊎ (n < d) → ¬ Borne (labels Swedish) (label (year y) m d)
@@ -384,12 +372,6 @@ swedish_skips (in_1753 {d} h k) = record {
   before_first = subst (λ (l : Label). label (pos 1753) 2 d ≺ l) (sym first_gregorian_1753) (by_month refl (omega arith));
   skippable = inl (_, old_1753 d (omega arith) k);
 }
-
--- at these switches
-pub swedish_skips_at : {l : Label} (g : SwedishGap l) → ((l.year ≡ pos 1700) × ((swedish_skips g).switch ≡ pos 2_342_042)) ⊎ ((l.year ≡ pos 1753) × ((swedish_skips g).switch ≡ pos 2_361_390))
-unfolding swedish_skips
-swedish_skips_at in_1700 = inl (refl, refl)
-swedish_skips_at (in_1753 h k) = inr (refl, refl)
 
 -- and no other label: a Julian label between those of two days is that of a day between them
 old_between : (a b : ℕ) {l m x : Label} → label_of julian (day a) ≡ l → label_of julian (day b) ≡ m → l ≺ x → x ≺ m → Borne (label_of julian) x → (k : ℕ) × (label_of julian (day k) ≡ x) × (a < k) × (k < b)

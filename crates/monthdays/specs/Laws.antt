@@ -70,21 +70,6 @@ module _ (leap : Bool) where
 -- ---- The month by arithmetic
 
 -- the place o as it would be if February had 30 days, and its month m by division
--- a place up to February, and one after it, if February had 30 days
-pub before_thirty : (leap : Bool) (o : ℕ) {t : ℕ} → t ≡ cond leap 1 2 → o + t < 62 → (o ≡ o + to_thirty_value leap o) × (o ≤ o + 2)
-before_thirty leap o {t} e h = (sym (same leap e), omega arith)
-  where
-    none : o + 0 ≡ o
-    none = omega arith
-
-    same : (b : Bool) → t ≡ cond b 1 2 → o + to_thirty_value b o ≡ o
-    same true e = let z : to_thirty_value true o ≡ 0 = simp (le-ltb 60 o (omega arith)) in ap (λ (n : ℕ). o + n) z ∙ none
-    same false e = let z : to_thirty_value false o ≡ 0 = simp (le-ltb 59 o (omega arith)) in ap (λ (n : ℕ). o + n) z ∙ none
-
-pub past_thirty : (leap : Bool) (o : ℕ) {t : ℕ} → t ≡ cond leap 1 2 → 62 ≤ o + t → (o + t ≡ o + to_thirty_value leap o) × (o + t ≤ o + 2)
-past_thirty true o e h = (ap (λ (n : ℕ). o + n) (e ∙ sym (simp (lt-ltb 60 o (omega arith)))), omega arith)
-past_thirty false o e h = (ap (λ (n : ℕ). o + n) (e ∙ sym (simp (lt-ltb 59 o (omega arith)))), omega arith)
-
 module _ (leap : Bool) (o t m : ℕ) (f : 1 ≤ o) (e : t ≡ to_thirty_value leap o) (g : m ≡ (12 * (o + t) + 361) / 367) where
   thirty_few : t ≤ 2
   thirty_few = rw e (few leap (ltb (cond leap 60 59) o))

@@ -1,7 +1,7 @@
 // The months of a year: from an ordinal to month and day, and back.
 // For the crates above.
 
-ghost use Rattle.std.specs.Prelude.{◌≡◌, true, false, cond, ◌+◌, ◌≤◌, ◌<◌};
+ghost use Rattle.std.specs.Prelude.{◌≡◌, true, false, ◌+◌, ◌≤◌, ◌<◌};
 ghost use Rattle.whole.specs.Whether.{Whether};
 ghost use Rattle.days.specs.DayByDay.{month_length, Month};
 ghost use Rattle.days.specs.ClosedNumbers.{days_before_value, to_thirty_value};
@@ -114,7 +114,7 @@ pub struct MonthAndDay {
 pub fn month_day(leap: bool, days: u32) -> MonthAndDay
     ensures { MonthDayAt leap (days + 1) result.month result.day }
 {
-    let place = with_thirty(leap, days);
+    let place = days as u64 + 1 + to_thirty(leap, days);
     let month = (12 * place + 361) / 367;
     MonthAndDay {
         month: month as u32,
@@ -122,23 +122,18 @@ pub fn month_day(leap: bool, days: u32) -> MonthAndDay
     }
 }
 
-// A place in a year, from 0, as one from 1 if February had 30 days. After February it is past 61 so.
-fn with_thirty(leap: bool, days: u32) -> u64
-    ensures { (result ≡ days + 1 + to_thirty_value leap (days + 1)) × (result ≤ days + 3) }
-{
-    let late = days as u64 + 1 + short_of_thirty(leap);
-    if late < 62 {
-        return days as u64 + 1;
-    }
-    late
-}
-
-// How many days February is short of 30.
-fn short_of_thirty(leap: bool) -> u64
-    ensures { (result ≡ cond leap 1 2) × (result ≤ 2) }
+// How many days later a day would stand if February had 30.
+fn to_thirty(leap: bool, days: u32) -> u64
+    ensures { (result ≡ to_thirty_value leap (days + 1)) × (result ≤ 2) }
 {
     if leap {
-        return 1;
+        if 60 <= days {
+            return 1;
+        }
+        return 0;
     }
-    2
+    if 59 <= days {
+        return 2;
+    }
+    0
 }

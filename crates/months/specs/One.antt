@@ -1,18 +1,16 @@
 -- Two results that a promise allows for one input are equal: a theorem for each promise.
 -- Assumes nothing.
 use Rattle.std.specs.Prelude.{◌≡◌, refl, ℕ, ℤ}
-use Rattle.std.proofs.Common.{sym, ◌∙◌, ap, subst, subst₂}
+use Rattle.std.proofs.Common.{sym, ◌∙◌, ap, ap₂, subst}
 use Rattle.whole.specs.Biased.{unbias_injective}
 use Rattle.whole.specs.Integers.{antisym}
 use Rattle.days.specs.DayByDay.{Label, label, OfMonth, Rises, DayOrdinal}
 use Rattle.days.specs.RisingLabels.{once, place_one, nth_one, days_one}
-use Rattle.days.specs.BiasedDays.{year_bias, year}
+use Rattle.days.specs.BiasedDays.{year_bias}
 use Rattle.days.specs.ClosedRuns.{runs_one}
 use Rattle.days.specs.AcceptedCalendars.{accepted_rises}
-use Rattle.switches.specs.Promise as SP
-use Rattle.switches.specs.One as S
-use Rattle.swedish.specs.Promise as WP
-use Rattle.swedish.specs.One as W
+use Rattle.switches.specs.declared.Spanned.TheVariants as Spanned'
+use Rattle.switches.specs.Promise.{month_span}
 use Rattle.calendar.specs.declared.Calendar.{Calendar}
 use Rattle.refusals.specs.declared.Refusal.{Refusal}
 use Rattle.calendar.specs.declared.Counted.TheVariants as Counted'
@@ -21,9 +19,9 @@ use Rattle.calendar.specs.declared.Dated.TheVariants as Dated'
 use Rattle.calendar.specs.Calendars.{labels, Accepted}
 use Rattle.calendar.specs.RowLaws.{One, unless_one, if_one}
 use Rattle.calendar.specs.Promise.{Given}
-use Rattle.calendar.specs.One.{given_one, swedish_in, swedish_turns_oft}
+use Rattle.calendar.specs.One.{given_one}
 use Rattle.months.specs.Promise.{Number, number, OfAMonth, YearLengthOf, Len, FirstDay, first, no_first, LastDay, last, no_last, FirstDayOf, LastDayOf, Bears, borne, not_borne, Contains, PlaceOf, DayOrdinalOf, IsNth, NthLabel, NthDay, NthRecord, nth_record, NthDate}
-use Rattle.months.specs.Natural.{Spans, switched, swedish, no_calendar}
+use Rattle.months.specs.Natural.{Spans, spanned, no_calendar, no_month}
 
 -- a number with P is one if no two have P
 number_one : {P : ℕ → Type 0} → ((k l : ℕ) → P k → P l → k ≡ l) → One (Number P)
@@ -102,16 +100,14 @@ pub nth_date_one : (c : Calendar) (y : ℤ) (m k : ℕ) → One (NthDate c y m k
 nth_date_one c y m k = of_a_month_one c m Dated'.Refused (λ a. if_one (λ n. nth_record_one c y m k))
 
 -- ---- The run of days of a month
-same_year : {z : ℤ} (y i : ℕ) → year y ≡ z → year i ≡ z → i ≡ y
-same_year y i e f = unbias_injective year_bias i y (f ∙ sym e)
-
-pub spans_one : (c : Calendar) (z : ℤ) (m : ℕ) → One (Spans c z m)
-spans_one c z m a b (switched {r} {y} p h e s) (switched {y = i} q g f t) = S.spans_month_one r y m a b s (subst₂ (λ (r y : ℕ). SP.SpansMonth r y m b) (runs_one q p) (same_year y i e f) t)
-spans_one c z m a b (switched p h e s) (swedish w g f t) = absurd (swedish_turns_oft w p)
-spans_one c z m a b (switched p h e s) (no_calendar n) = absurd (n p.accepted)
-spans_one c z m a b (swedish w h e s) (switched q g f t) = absurd (swedish_turns_oft w q)
-spans_one c z m a b (swedish {y} w h e s) (swedish {y = i} x g f t) = W.spans_month_one y m a b s (subst (λ (y : ℕ). WP.SpansMonth y m b) (same_year y i e f) t)
-spans_one c z m a b (swedish w h e s) (no_calendar n) = absurd (n (swedish_in w))
-spans_one c z m a b (no_calendar n) (switched q g f t) = absurd (n q.accepted)
-spans_one c z m a b (no_calendar n) (swedish w g f t) = absurd (n (swedish_in w))
-spans_one c z m a b (no_calendar n) (no_calendar i) = refl
+pub spans_one : (c : Calendar) (y : ℤ) (m : ℕ) → One (Spans c y m)
+spans_one c y m a b (spanned p) (spanned q) =
+    ap Spanned'.Month (p.span ∙ ap₂ (λ (r i : ℕ). month_span r i m) (runs_one p.runs q.runs) (unbias_injective year_bias p.y q.y (p.year_is ∙ sym q.year_is)) ∙ sym q.span)
+spans_one c y m a b (spanned p) (no_calendar n) = absurd (n p.runs.accepted)
+spans_one c y m a b (spanned p) (no_month x n) = absurd (n p.is_month)
+spans_one c y m a b (no_calendar n) (spanned p) = absurd (n p.runs.accepted)
+spans_one c y m a b (no_calendar n) (no_calendar i) = refl
+spans_one c y m a b (no_calendar n) (no_month x i) = absurd (n x)
+spans_one c y m a b (no_month x n) (spanned p) = absurd (n p.is_month)
+spans_one c y m a b (no_month x n) (no_calendar i) = absurd (i x)
+spans_one c y m a b (no_month x n) (no_month w i) = refl

@@ -1,16 +1,14 @@
 // The years and months of a calendar: how many days they have, and the place of a day in its month. Days outside 32 bits count too.
-// The days of a month are consecutive: in a calendar that switches once, Julian days before the switch and Gregorian days from the switch on; in the
-// Swedish one, a single run.
+// The days of a month are consecutive: Julian days before the switch, and Gregorian days from the switch on.
 // For users: all but `span_of`, which is for the crates above.
 
-ghost use Rattle.std.specs.Prelude.{◌≡◌, ◌-◌};
+ghost use Rattle.std.specs.Prelude.{◌≡◌};
 ghost use Rattle.months.specs.Promise.{YearLengthOf, Len, FirstDayOf, LastDayOf, Contains, DayOrdinalOf, NthDay, NthDate};
-ghost use Rattle.months.specs.Natural.{Few, FoundOf, Spans, Inside, day_in_value};
-ghost use Rattle.calendar.specs.declared.Counted.TheVariants as Counted';
+ghost use Rattle.months.specs.Natural.{Spans, Inside, day_in_value};
 
 use calendar::{Calendar, Counted, Dated, Switch, Told, switch_of};
 use refusals::refusal_with;
-use switches::{Found, MonthSpan, Span, Spanned, find, month_span, year_span};
+use switches::{Found, MonthSpan, Spanned, find, month_span, year_span};
 use whole::raised;
 
 // ---- Years
@@ -21,16 +19,11 @@ pub fn year_length(calendar: Calendar, year: i32) -> Counted
 {
     match switch_of(calendar) {
         Switch::MadeUp => Counted::Refused(refusal_with(16, 0)),
-        Switch::At(switch) => count(year_span(switch, raised(year))),
-        Switch::Swedish => count(swedish::year_span(raised(year))),
+        Switch::At(switch) => {
+            let span = year_span(switch, raised(year));
+            Counted::Number((span.past - span.first) as u32)
+        }
     }
-}
-
-fn count(span: Span) -> Counted
-    requires { Few span.first span.past }
-    ensures { result ≡ Counted'.Number (span.past - span.first) }
-{
-    Counted::Number((span.past - span.first) as u32)
 }
 
 // ---- Months
@@ -80,7 +73,7 @@ pub fn contains(calendar: Calendar, year: i32, month: u32, day: u32) -> Told
 {
     match span_of(calendar, year, month) {
         Spanned::Refused(refusal) => Told::Refused(refusal),
-        Spanned::Month(_) => match found(calendar, year, month, day) {
+        Spanned::Month(s) => match find(s.switch, raised(year), month, day) {
             Found::At(_) => Told::Is(true),
             Found::Refused(_) => Told::Is(false),
         },
@@ -93,21 +86,10 @@ pub fn day_ordinal(calendar: Calendar, year: i32, month: u32, day: u32) -> Count
 {
     match span_of(calendar, year, month) {
         Spanned::Refused(refusal) => Counted::Refused(refusal),
-        Spanned::Month(s) => match found(calendar, year, month, day) {
+        Spanned::Month(s) => match find(s.switch, raised(year), month, day) {
             Found::At(spot) => Counted::Number((spot.biased + 1 - s.first) as u32),
             Found::Refused(refusal) => Counted::Refused(refusal),
         },
-    }
-}
-
-// Where a label is.
-fn found(calendar: Calendar, year: i32, month: u32, day: u32) -> Found
-    ensures { FoundOf calendar year month day result }
-{
-    match switch_of(calendar) {
-        Switch::MadeUp => Found::Refused(refusal_with(16, 0)),
-        Switch::At(switch) => find(switch, raised(year), month, day),
-        Switch::Swedish => swedish::find(raised(year), month, day),
     }
 }
 
@@ -149,7 +131,6 @@ pub fn span_of(calendar: Calendar, year: i32, month: u32) -> Spanned
     match switch_of(calendar) {
         Switch::MadeUp => Spanned::Refused(refusal_with(16, 0)),
         Switch::At(switch) => month_span(switch, raised(year), month),
-        Switch::Swedish => swedish::month_span(raised(year), month),
     }
 }
 

@@ -1,10 +1,10 @@
--- The calendar names: `JULIAN`, `GREGORIAN`, the constants of `ncal.rs`, each with the day number that stands there, in its order, and `SWEDISH`.
+-- The calendar names: `JULIAN`, `GREGORIAN`, and the constants of `ncal.rs`, each with the day number that stands there, in its order.
 -- Assumes nothing.
 use Rattle.std.specs.Prelude.{List, [], ◌∷◌, ℕ, pos}
 use Prim.Native.String.{String}
 use Rattle.whole.specs.Text.{bytes}
 use Rattle.calendar.specs.declared.Calendar.{Calendar}
-use Rattle.calendar.specs.declared.Calendar.TheVariants.{Julian, Gregorian, Reforming, Swedish}
+use Rattle.calendar.specs.declared.Calendar.TheVariants.{Julian, Gregorian, Reforming}
 
 -- a row: a name in bytes, and its calendar
 pub record NameRow : Type 0 where
@@ -60,5 +60,4 @@ table =
     ∷ "UNITED_KINGDOM" from 2_361_222
     ∷ "UNITED_STATES" from 2_361_222
     ∷ "YUGOSLAVIA" from 2_422_036
-    ∷ "SWEDISH" is Swedish
     ∷ []

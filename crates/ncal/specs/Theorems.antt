@@ -5,14 +5,14 @@ use Rattle.std.proofs.Common.{sym, ap, subst, inl, inr}
 use Rattle.std.specs.Int.Signed.{le_z, le_z_yes}
 use Rattle.std.proofs.Math.Facts.{and_yes}
 use Rattle.whole.specs.Integers.{unbias_le_down}
-use Rattle.days.specs.DayByDay.{AcceptedReformation, julian_accepted, gregorian_accepted, reforming_accepted, swedish_accepted}
+use Rattle.days.specs.DayByDay.{AcceptedReformation, julian_accepted, gregorian_accepted, reforming_accepted}
 use Rattle.days.specs.BiasedDays.{day_bias}
 use Rattle.days.specs.RisingSpans.{biased_from}
 use Rattle.days.specs.ReformationTable.{accepts}
 use Rattle.calendar.specs.Calendars.{Accepted}
 use Rattle.calendar.specs.Rows.{refuses, passes}
 use Rattle.calendar.specs.declared.Calendar.{Calendar}
-use Rattle.calendar.specs.declared.Calendar.TheVariants.{Julian, Gregorian, Reforming, Swedish}
+use Rattle.calendar.specs.declared.Calendar.TheVariants.{Julian, Gregorian, Reforming}
 use Rattle.calendar.specs.declared.Chosen.{Chosen}
 use Rattle.calendar.specs.declared.Chosen.TheVariants as Chosen'
 use Rattle.ncal.specs.Table.{NameRow, table}
@@ -44,14 +44,12 @@ in_range : Calendar → Bool
 in_range Julian = true
 in_range Gregorian = true
 in_range (Reforming r) = le_z (pos 1_830_692) r && le_z r (pos 2_147_439_588)
-in_range Swedish = true
 
 range_accepted : (c : Calendar) → T (in_range c) → Accepted c
 unfolding in_range
 range_accepted Julian t = julian_accepted
 range_accepted Gregorian t = gregorian_accepted
 range_accepted (Reforming r) t = let (a, b) = and_yes (le_z (pos 1_830_692) r) _ t in reforming_accepted (in_range_lem r (le_z_yes a) (le_z_yes b))
-range_accepted Swedish t = swedish_accepted
 
 row_in_range : ℕ → NameRow → Bool
 row_in_range k r = in_range r.calendar

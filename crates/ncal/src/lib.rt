@@ -1,4 +1,4 @@
-// The calendars of the countries that `ncal.rs` of the crate lists, that of the Swedish years, and calendars by name.
+// The calendars of the countries that `ncal.rs` of the crate lists, and calendars by name.
 // For users: all that is public but `look_up` and `Found`, which are for the crates above.
 
 ghost use Rattle.std.specs.Prelude.{◌≡◌};
@@ -113,11 +113,6 @@ pub const UNITED_STATES: Calendar = Calendar::Reforming(2_361_222);
 // 1919-03-18, following 1919-03-04 O.S.
 pub const YUGOSLAVIA: Calendar = Calendar::Reforming(2_422_036);
 
-// ---- The calendar that Sweden kept from 1700 to 1712, which `ncal.rs` does not have
-
-// 1700-03-01, following 1700-02-28 O.S., a day ahead of it; 1712-03-01 O.S., following 1712-02-30; 1753-03-01, following 1753-02-17 O.S.
-pub const SWEDISH: Calendar = Calendar::Swedish;
-
 // ---- The names
 
 // The calendar of a name, in capitals.
@@ -218,7 +213,6 @@ fn of_seven(name: &[u8]) -> Found
         .or(name, b"HUNGARY", HUNGARY)
         .or(name, b"ICELAND", ICELAND)
         .or(name, b"ROMANIA", ROMANIA)
-        .or(name, b"SWEDISH", SWEDISH)
 }
 
 fn of_eight(name: &[u8]) -> Found

@@ -48,7 +48,7 @@ fn with_date(h: u64, date: Date) -> u64 {
     let d = with_count(c, date.month);
     let e = with_count(d, date.day);
     let f = with_count(e, date.day_ordinal);
-    let g = with_count(f, reply::style_value(date));
+    let g = with_count(f, reply::julian_bit(date));
     with_number(g, date.weekday())
 }
 

@@ -110,13 +110,12 @@ fn made_up_calendar(line: &[u8], at: usize) -> Calendar {
     Calendar::JULIAN
 }
 
-// A calendar is `J`, `G`, `S`, the Swedish one, or the day of its reformation.
+// A calendar is `J`, `G`, or the day of its reformation.
 pub fn calendar_at(line: &[u8], at: usize) -> Head {
     let next = after_tab(line, at);
     match byte_at(line, at) {
         b'J' => Head::Calendar(Calendar::JULIAN, next),
         b'G' => Head::Calendar(Calendar::GREGORIAN, next),
-        b'S' => Head::Calendar(Calendar::SWEDISH, next),
         b'?' => Head::Calendar(made_up_calendar(line, at), next),
         _ => reforming_at(line, at, next),
     }
@@ -125,7 +124,6 @@ pub fn calendar_at(line: &[u8], at: usize) -> Head {
 fn style_at(line: &[u8], at: usize) -> Style {
     match byte_at(line, at) {
         b'J' => Style::Julian,
-        b'S' => Style::Swedish,
         _ => Style::Gregorian,
     }
 }

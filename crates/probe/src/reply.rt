@@ -104,13 +104,13 @@ fn truth(answer: Told) -> u32 {
     }
 }
 
-// The style as it counts in a digest: 1 for the Julian one, 0 for the Gregorian one, 2 for the Swedish one.
-pub fn style_value(date: Date) -> u32 {
+// 1 for the Julian style, 0 for another.
+pub fn julian_bit(date: Date) -> u32 {
     let own = date.style;
     match own {
         Style::Julian => 1,
         Style::Gregorian => 0,
-        Style::Swedish => 2,
+        Style::Swedish => 0,
     }
 }
 
@@ -146,7 +146,6 @@ pub fn calendar(reply: Reply, calendar: Calendar) -> Reply {
         Calendar::Julian => letter(reply, b'J'),
         Calendar::Gregorian => letter(reply, b'G'),
         Calendar::Reforming(r) => number(reply, whole::widened(r)),
-        Calendar::Swedish => letter(reply, b'S'),
     }
 }
 

@@ -170,7 +170,7 @@ module _ (E : enum.Declared) (L' : EL.Laws E) (few : Few (enum.shape E)) (flat :
     Post = (walk_of 𝓛 next_ended stayed (next_clauses 𝓤)).post (((κ, (κ', tt)), (q, (q', tt)), bounds, x, at), tt)
 
     abbrev Own : ℕ → Fml
-    Own n = (B κ').own_val (moved n) (T'.lowered (moved n) ∷ [])
+    Own n = (B κ').own (moved n) (T'.lowered (moved n) ∷ [])
 
     -- the struct's type and laws, and its fields' values
     abbrev D : Declared
@@ -213,9 +213,9 @@ module _ (E : enum.Declared) (L' : EL.Laws E) (few : Few (enum.shape E)) (flat :
     abbrev to_after : E.D → Val → (NextAfter 𝓛).Ghost
     to_after r u = ((tt, tt, tt, (r, (h.at, tt)), (u ∷ [], (vint w64 h.at ∷ [], tt))), tt)
 
-    goes_after : h.at < 2 ^ 64 → (r : E.D) (u : Val) → ent 𝓤 (sem 𝓛 (S.own_val r (u ∷ []))) ((NextAfter 𝓛).pre (to_after r u))
+    goes_after : h.at < 2 ^ 64 → (r : E.D) (u : Val) → ent 𝓤 (sem 𝓛 (S.own r (u ∷ []))) ((NextAfter 𝓛).pre (to_after r u))
     goes_after fits r u =
-        qed 𝓛 (‵ (S.own_val r (u ∷ [])) ∷ []) ∵ nothing ! $ owned ! usize (Is usize) (uint_Makes 𝓛 w64) h.at _ (refl, fits) $ fjoin ! $ move ! (1 ∷ 0 ∷ []) $ fjoin ! $ nothing ! $ join ! $ frame ! $ done !
+        qed 𝓛 (‵ (S.own r (u ∷ [])) ∷ []) ∵ nothing ! $ owned ! usize (Is usize) (uint_Makes 𝓛 w64) h.at _ (refl, fits) $ fjoin ! $ move ! (1 ∷ 0 ∷ []) $ fjoin ! $ nothing ! $ join ! $ frame ! $ done !
 
     -- what src owns is kept, and the facts of at are made anew
     again : (n : ℕ) → n < 2 ^ 64 → ent 𝓤 (sem 𝓛 (Own h.at)) (sem 𝓛 (Own n))
@@ -250,7 +250,7 @@ module _ (E : enum.Declared) (L' : EL.Laws E) (few : Few (enum.shape E)) (flat :
           -- the read is called
           move ! (1 ∷ 5 ∷ []) $ use2 𝓛 (raw ((ReadPart 𝓛).pre to) ⊛ ‵ (Own h.at)) (apart (typed was).1.1.0.fits) $ split ! $
           calls_at ! fm (ReadPart 𝓛) known_read to (and_then ! (load ! (from ! (stop !)) (look ! 7 refl)) (and_then ! (load ! (from ! (stop !)) (look ! 13 refl)) (no_more !))) (λ u.
-          use1 𝓛 (later (some (λ (r : E.D). ((‵ (flft κ' q') ⊛ ‵ ftrue) ⊛ ‵ (S.own_val r (u ∷ []))) ⊛ raw (ensured 𝓛 read_ended (read_clauses 𝓤) (κ', tt) (h.src, (h.at, tt)) tt r)))) (id⊢ 𝓤 _) $ await ! tt $ pick ! (λ r.
+          use1 𝓛 (later (some (λ (r : E.D). ((‵ (flft κ' q') ⊛ ‵ ftrue) ⊛ ‵ (S.own r (u ∷ []))) ⊛ raw (ensured 𝓛 read_ended (read_clauses 𝓤) (κ', tt) (h.src, (h.at, tt)) tt r)))) (id⊢ 𝓤 _) $ await ! tt $ pick ! (λ r.
           split ! $ move ! (1 ∷ []) $ use1 𝓛 (raw (fact 𝓤 (Found r))) (said r) $ heard ! (Found r) (λ e. split ! $ move ! (1 ∷ []) $
           -- [the result; 'a's token; what the Reader owns; its cell; the open borrow; obs; auth; the parameters' end; _5; …; _4; …; _3; …; _2; …; _1; …; room for _0; …]
           peeks ! S (Is S) (shows 𝓛 S) r (u ∷ []) (λ is.

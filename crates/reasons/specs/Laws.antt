@@ -1,8 +1,8 @@
 -- What the proofs need: from the answers of the calls below to the reasons.
 -- Assumes nothing.
-use Rattle.std.specs.Prelude.{◌≡◌, refl, Bool, true, false, not, cond, List, [], ◌⊎◌, ℕ, suc, ◌+◌, ◌<◌, ℤ, pos, negsuc, nat_abs, ◌-ℤ◌, take, ◌<ℤ◌, ◌≤ℤ◌}
-use Rattle.std.proofs.Common.{sym, ◌∙◌, ap, subst, subst₂, inl, inr, ⊎_elim, arith, eq-eqb, ne_eqb}
-use Rattle.std.proofs.Math.IntN.{pred_ℤ, -ℤ_one}
+use Rattle.std.specs.Prelude.{◌≡◌, refl, Bool, true, false, not, cond, List, ◌⊎◌, ℕ, suc, ◌+◌, ◌<◌, ℤ, pos, negsuc, ◌-ℤ◌, take, ◌<ℤ◌, ◌≤ℤ◌}
+use Rattle.std.proofs.Common.{sym, ◌∙◌, ap, subst, ⊎_elim, arith, eq-eqb, ne_eqb}
+use Rattle.std.proofs.Math.IntN.{+ℤ_idr}
 use Rattle.std.specs.Int.Signed.{le_z_yes}
 use Rattle.whole.specs.Promise.{is_negative_value}
 use Rattle.whole.specs.Whether.{Whether}
@@ -10,24 +10,22 @@ use Rattle.whole.specs.Integers.{lt_or_ge, lt_le, le_trans}
 use Rattle.whole.specs.Edge.{fits_between}
 use Rattle.refusals.specs.declared.Refusal.{Refusal}
 use Rattle.refusals.specs.Promise.{refusal}
-use Rattle.days.specs.DayByDay.{Label, label, Timeline, Switch, Is32Bit, SwitchDay, this, later, MissingIn, Month, reforming_accepted, swedish_accepted}
+use Rattle.days.specs.DayByDay.{Label, label, Timeline, Is32Bit, SwitchDay, this, later, MissingIn, Month}
 use Rattle.days.specs.AcceptedCalendars.{accepted_rises, no_switch}
 use Rattle.days.specs.RisingLabels.{no_earlier_year, days_one}
-use Rattle.days.specs.RisingTimelines.{one_switch}
-use Rattle.days.specs.AcceptedYears.{least_label, greatest_label, accepted_rising}
+use Rattle.days.specs.AcceptedYears.{least_label, greatest_label}
 use Rattle.days.specs.KnownDays.{known_days}
-use Rattle.days.specs.SwedishMonths.{swedish_skips, swedish_skips_at, swedish_skips_only}
 use Rattle.calendar.specs.declared.Calendar.{Calendar}
 use Rattle.calendar.specs.declared.Calendar.TheVariants as Calendar'
 use Rattle.calendar.specs.declared.Date.{Date}
 use Rattle.calendar.specs.declared.Dated.{Dated}
 use Rattle.calendar.specs.declared.Dated.TheVariants as Dated'
+use Rattle.calendar.specs.declared.ReformDate.{ReformDate}
+use Rattle.calendar.specs.declared.ReformDate.TheVariants as ReformDate'
 use Rattle.calendar.specs.declared.Counted.TheVariants as Counted'
 use Rattle.calendar.specs.Calendars.{definition_of, timeline, labels, Accepted, IsRecordIn, IsRecord, Skipped}
-use Rattle.calendar.specs.Rows.{refuses, passes}
-use Rattle.calendar.specs.Promise.{RecordOfIn, record_of, AtJdn, AtYmd, on_label, AtOrdinal, on_ordinal, OffYear, Next}
-use Rattle.calendar.specs.Laws.{jdn_record}
-use Rattle.calendar.specs.Theorems.{record_genuine}
+use Rattle.calendar.specs.Rows.{Unless, refuses, passes}
+use Rattle.calendar.specs.Promise.{made_up, RecordOfIn, record_of, AtYmd, on_label, AtOrdinal, on_ordinal, OffYear, LastJulian, FirstGregorian, ReformRecord, reform_record, never_julian, never_gregorian}
 use Rattle.months.specs.Promise.{number, YearLengthOf}
 use Rattle.monthruns.specs.declared.Runs.{Runs}
 use Rattle.monthruns.specs.declared.MonthDays.TheVariants as MonthDays'
@@ -131,73 +129,41 @@ module _ (c : Calendar) (a : Accepted c) (y : ℤ) (m d k : ℕ) (v : Month m) w
   runs_refused (refuses n) = n a
   runs_refused (passes b (refuses n)) = n v
 
--- ---- The gap of a skipped label, at a switch
+-- ---- The gap of a skipped label, which is at the one switch of the calendar
 
--- some label of the year y is skipped
-abbrev pub SkipsSome : Calendar → ℤ → Type 0
-SkipsSome c y = (l : Label) × (l.year ≡ y) × Skipped c l
+abbrev pub SkipsSome : Calendar → Type 0
+SkipsSome c = (l : Label) × Skipped c l
 
--- each such label is skipped at the switch on day n
-abbrev pub SkipsAt : Calendar → ℤ → ℤ → Type 0
-SkipsAt c y n = (l : Label) → l.year ≡ y → (s : Skipped c l) → s.switch ≡ n
+pub data AroundGap (c : Calendar) (d k : ℕ) : Reason → Type 0 where
+  around_gap : {before after : Date} → ((l : Label) → Skipped c l → Gap (timeline c) c l before after) → AroundGap c d k (Reason'.Skipped (refusal 5 k (pos d)) before after)
 
-pub data AroundGap (c : Calendar) (y : ℤ) (d k : ℕ) : Reason → Type 0 where
-  around_gap : {before after : Date} → ((l : Label) → l.year ≡ y → Skipped c l → Gap (timeline c) c l before after) → AroundGap c y d k (Reason'.Skipped (refusal 5 k (pos d)) before after)
-
--- a calendar that never switches skips none
-pub never_skips : (c : Calendar) {y n : ℤ} → (timeline c).switches ≡ [] → SkipsAt c y n
-never_skips c e l i s = absurd (no_switch (subst (λ (t : List Switch). SwitchDay t s.switch) e s.switches))
-
-pub reforming_skips : {y r : ℤ} → SkipsAt (Calendar'.Reforming r) y r
-reforming_skips {r = r} l e s = by s.switches
+only_switch : {r : ℤ} {l : Label} (s : Skipped (Calendar'.Reforming r) l) → r ≡ s.switch
+only_switch {r} s = by s.switches
   where
-    by : {d : ℤ} → SwitchDay (timeline (Calendar'.Reforming r)).switches d → d ≡ r
+    by : {d : ℤ} → SwitchDay (timeline (Calendar'.Reforming r)).switches d → r ≡ d
     by this = refl
     by (later x) = absurd (no_switch x)
 
-swedish_gaps : {l : Label} (s : Skipped Calendar'.Swedish l) → ((l.year ≡ pos 1700) × (s.switch ≡ pos 2_342_042)) ⊎ ((l.year ≡ pos 1753) × (s.switch ≡ pos 2_361_390))
-swedish_gaps s =
-    let g = swedish_skips_only s in
-    let e = one_switch (accepted_rising swedish_accepted) s (swedish_skips g) in
-    ⊎_elim (λ (y, f). inl (y, e ∙ f)) (λ (y, f). inr (y, e ∙ f)) (swedish_skips_at g)
+pub gap_sides : {c : Calendar} {b e : Date} → LastJulian c (ReformDate'.Date b) → FirstGregorian c (ReformDate'.Date e) → (l : Label) → Skipped c l → Gap (timeline c) c l b e
+gap_sides {b = b} {e} (passes x (reform_record {r} p)) (passes z (reform_record q)) l s = record {
+  skipped = s;
+  last_before = subst (λ (n : ℤ). IsRecord (Calendar'.Reforming r) (n -ℤ pos 1) b) (only_switch s) p;
+  first_after = subst (λ (n : ℤ). IsRecord (Calendar'.Reforming r) n e) (+ℤ_idr r ∙ only_switch s) q;
+}
 
-pub swedish_in_1700 : {y : ℤ} → y ≡ pos 1700 → SkipsAt Calendar'.Swedish y (pos 2_342_042)
-swedish_in_1700 w l e s = ⊎_elim (λ (y, f). f) (λ (y, f). absurd (never (sym y ∙ e ∙ w))) (swedish_gaps s)
+-- a calendar that skips some label has both sides
+pub never_side : {i : ℤ} (c : Calendar) → SkipsSome c → Unless (Accepted c) (ReformDate'.Refused made_up) (ReformRecord i c) ReformDate'.Never → ⊥
+never_side c s (passes x p) = by p s
   where
-    never : pos 1753 ≡ pos 1700 → ⊥
-    never i = omega (arith, ap nat_abs i)
+    by : {i : ℤ} {c : Calendar} → ReformRecord i c ReformDate'.Never → SkipsSome c → ⊥
+    by never_julian (l, s) = no_switch s.switches
+    by never_gregorian (l, s) = no_switch s.switches
 
-pub swedish_later : {y : ℤ} → ¬ (y ≡ pos 1700) → SkipsAt Calendar'.Swedish y (pos 2_361_390)
-swedish_later n l e s = ⊎_elim (λ (y, f). absurd (n (sym e ∙ y))) (λ (y, f). f) (swedish_gaps s)
+pub refused_side : {i : ℤ} (c : Calendar) {f : Refusal} → Accepted c → Unless (Accepted c) (ReformDate'.Refused made_up) (ReformRecord i c) (ReformDate'.Refused f) → ⊥
+refused_side c a (refuses n) = n a
 
--- there is a 32-bit day before it
-before_switch : (c : Calendar) {l : Label} → Accepted c → (s : Skipped c l) → Is32Bit (s.switch -ℤ pos 1)
-before_switch Calendar'.Julian a s = absurd (no_switch s.switches)
-before_switch Calendar'.Gregorian a s = absurd (no_switch s.switches)
-before_switch (Calendar'.Reforming r) {l} (reforming_accepted a) s = subst (λ (n : ℤ). Is32Bit (n -ℤ pos 1)) (sym (reforming_skips {y = l.year} l refl s)) a.day_before
-before_switch Calendar'.Swedish a s = ⊎_elim
-    (λ (y, f). subst (λ (n : ℤ). Is32Bit (n -ℤ pos 1)) (sym f) (fits_between (le_z_yes tt) (le_z_yes tt)))
-    (λ (y, f). subst (λ (n : ℤ). Is32Bit (n -ℤ pos 1)) (sym f) (fits_between (le_z_yes tt) (le_z_yes tt)))
-    (swedish_gaps s)
-
-module _ (c : Calendar) {y n : ℤ} (a : Accepted c) (at : SkipsAt c y n) {e : Date} (p : AtJdn c n (Dated'.Date e)) where
-  after_record : IsRecord c n e
-  after_record = jdn_record p
-
-  pub gap_sides : {b : Date} → Next e (pred_ℤ e.jdn) (Dated'.Date b) → (l : Label) → l.year ≡ y → Skipped c l → Gap (timeline c) c l b e
-  gap_sides {b} (passes g (passes f (record_of q))) l i s = record {
-    skipped = s;
-    last_before = subst₂ (λ (c : Calendar) (n : ℤ). IsRecord c n b) after_record.calendar_is (ap pred_ℤ (after_record.day_is ∙ sym (at l i s)) ∙ sym (-ℤ_one s.switch)) q;
-    first_after = subst (λ (n : ℤ). IsRecord c n e) (sym (at l i s)) after_record;
-  }
-
-  -- the day before is there
-  pub before_there : {f : Refusal} → SkipsSome c y → Next e (pred_ℤ e.jdn) (Dated'.Refused f) → ⊥
-  before_there (l, i, s) (refuses n) = n (record_genuine a after_record)
-  before_there (l, i, s) (passes g (refuses n)) = n (subst Is32Bit (-ℤ_one s.switch ∙ ap pred_ℤ (at l i s ∙ sym after_record.day_is)) (before_switch c a s))
-
-pub skipped_ymd : {c : Calendar} {y : ℤ} {m d k : ℕ} {r : Reason} → Skipped c (label y m d) → AroundGap c y d k r → OfYmd (timeline c) c y m d k r
-skipped_ymd s (AroundGap.around_gap g) = OfYmd.skipped (g _ refl s)
+pub skipped_ymd : {c : Calendar} {y : ℤ} {m d k : ℕ} {r : Reason} → Skipped c (label y m d) → AroundGap c d k r → OfYmd (timeline c) c y m d k r
+skipped_ymd s (AroundGap.around_gap g) = OfYmd.skipped (g _ s)
 
 -- ---- A year and an ordinal
 

@@ -9,10 +9,10 @@ ghost use Rattle.days.specs.DayByDay.{Month, label, MissingIn};
 ghost use Rattle.calendar.specs.Calendars.{timeline, Accepted};
 ghost use Rattle.reasons.specs.declared.Reason.TheVariants as Reason';
 ghost use Rattle.reasons.specs.Promise.{rule_of, OfYmd, OfOrdinal, mended_at_value, OfFault, Explains};
-ghost use Rattle.reasons.specs.Laws.{YearFault, SkipsSome, SkipsAt, AroundGap};
+ghost use Rattle.reasons.specs.Laws.{YearFault, SkipsSome, AroundGap};
 ghost use Rattle.calendar.specs.Promise.{OffYear};
 
-use calendar::{Calendar, Counted, Date, Dated, Refusal, Style};
+use calendar::{Calendar, Counted, Date, Dated, ReformDate, Refusal, Style, Switch};
 use datetext::Text;
 use expected::Expected;
 use monthruns::{MonthDays, Runs};
@@ -66,8 +66,9 @@ pub enum Reason {
 pub fn explain(calendar: Calendar, text: &[u8]) -> Reason
     ensures { Explains calendar text.now result }
 {
-    if calendar::is_accepted(calendar) {
-        return match datetext::read_date(text) {
+    match calendar::switch_of(calendar) {
+        Switch::MadeUp => Reason::MadeUp,
+        Switch::At(_) => match datetext::read_date(text) {
             Text::Refused(why) => of_fault(text, why),
             Text::Ordinal {
                 year,
@@ -80,9 +81,8 @@ pub fn explain(calendar: Calendar, text: &[u8]) -> Reason
                 day,
                 place,
             } => of_ymd(calendar, year, month, day, place),
-        };
+        },
     }
-    Reason::MadeUp
 }
 
 // ---- A text that is no date
@@ -134,7 +134,7 @@ fn of_ymd(calendar: Calendar, year: i32, month: u32, day: u32, place: usize) -> 
                 return missing(calendar, year, month, day, place);
             }
             if why.number == 5 {
-                return skipped(calendar, year, day, place);
+                return skipped(calendar, day, place);
             }
             outside(year)
         }
@@ -156,38 +156,23 @@ fn missing(calendar: Calendar, year: i32, month: u32, day: u32, place: usize) ->
     }
 }
 
-// On both sides of the gap are the day of a switch and the day before it.
-fn skipped(calendar: Calendar, year: i32, day: u32, place: usize) -> Reason
-    requires { Accepted calendar × SkipsSome calendar year }
-    ensures { AroundGap calendar year day place result }
+// The gap is at the one day on which the calendar switches.
+fn skipped(calendar: Calendar, day: u32, place: usize) -> Reason
+    requires { Accepted calendar × SkipsSome calendar }
+    ensures { AroundGap calendar day place result }
 {
-    match calendar.at_jdn(skips_at(calendar, year)) {
-        Dated::Date(after) => match after.pred() {
-            Dated::Date(before) => Reason::Skipped {
+    match calendar.last_julian_date() {
+        ReformDate::Date(before) => match calendar.first_gregorian_date() {
+            ReformDate::Date(after) => Reason::Skipped {
                 why: refusals::refusal_at(5, place, day),
                 before,
                 after,
             },
-            Dated::Refused(_) => Reason::MadeUp,
+            ReformDate::Never => Reason::MadeUp,
+            ReformDate::Refused(_) => Reason::MadeUp,
         },
-        Dated::Refused(_) => Reason::MadeUp,
-    }
-}
-
-// The day of the switch at which dates of a year were skipped. The Swedish calendar skipped one in 1700, and others in 1753.
-fn skips_at(calendar: Calendar, year: i32) -> i32
-    ensures { SkipsAt calendar year result }
-{
-    match calendar {
-        Calendar::Julian => 0,
-        Calendar::Gregorian => 0,
-        Calendar::Reforming(r) => r,
-        Calendar::Swedish => {
-            if year == 1700 {
-                return 2_342_042;
-            }
-            2_361_390
-        }
+        ReformDate::Never => Reason::MadeUp,
+        ReformDate::Refused(_) => Reason::MadeUp,
     }
 }
 

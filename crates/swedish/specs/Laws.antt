@@ -18,7 +18,7 @@ use Rattle.days.specs.ClosedGregorian as G
 use Rattle.days.specs.ClosedNumbers.{number, numbered, days_before_value, within_year}
 use Rattle.days.specs.ClosedRuns.{top, julian_month_value, gregorian_month, gregorian_past, first_julian, first_gregorian}
 use Rattle.days.specs.Swedish.{swedish_rises}
-use Rattle.days.specs.SwedishMonths.{SwedishMonth, new_month, swedish_month, swedish_day, swedish_from, swedish_room, swedish_some, swedish_year, swedish_missing, swedish_skips, swedish_skips_only, SwedishGap, in_1700, in_1753}
+use Rattle.days.specs.SwedishMonths.{SwedishMonth, new_month, swedish_month, swedish_day, swedish_from, swedish_room, swedish_year, swedish_missing, swedish_skips, swedish_skips_only, SwedishGap, in_1700, in_1753}
 use Rattle.switches.specs.declared.Spanned.TheVariants as Spanned'
 use Rattle.switches.specs.declared.Found.TheVariants as Found'
 use Rattle.switches.specs.declared.MonthSpan.{MonthSpan}
@@ -121,16 +121,6 @@ month_room y m v h {a} {b} s = sum s.days s.past_is (swedish_from y m v.0 v.1 h.
 -- ---- A year
 pub year_is : (y : ℕ) → BiasedYear y → {a b c d : ℕ} → MonthIs y 1 a b → MonthIs y 12 c d → YearSpan y a d
 year_is y h {a} s t = subst (λ (k : ℕ). YearSpan y a k) (sym t.past_is) (swedish_year y h.from s.is_month t.is_month)
-
--- it begins in time
-pub year_room : (y : ℕ) → BiasedYear y → {a b : ℕ} → YearSpan y a b → a < 2_000_000_000_000
-year_room y h {a} p =
-    let (c, n, s) = swedish_month y 1 (omega arith) (omega arith) in
-    let e : labels Swedish (day (c + 1 - 1)) ≡ label (year y) 1 1 = swedish_day y 1 (omega arith) (omega arith) s 1 (omega arith) (swedish_some y 1 (omega arith) (omega arith) s) in
-    small c n (p.here (c + 1 - 1) (ap (λ (l : Label). l.year) e)).0 (swedish_room y 1 (omega arith) (omega arith) h.to s)
-  where
-    small : (c n : ℕ) → a ≤ c + 1 - 1 → c + n < 2_000_000_000_000 → a < 2_000_000_000_000
-    small c n g k = omega arith
 
 -- ---- The place in its year of a day whose label is known
 module _ (y : ℕ) (h : BiasedYear y) (k : ℕ) {m d : ℕ} (e : labels Swedish (day k) ≡ label (year y) m d) {c b : ℕ} (j : MonthIs y 1 c b) where

@@ -129,28 +129,24 @@ days : (s n : ℕ) {a b : ℕ} → a ≡ s → b ≡ s + n → b - a ≡ n
 days s n e f = omega arith
 
 -- ---- A year in the reckoning in which it begins
-pub year_old : {a b y t : ℕ} {l : Bool} → t ≡ J.start y → l ≡ J.leap_at y → t < a → YearIn a b y (record { first = t; leap = l; reckoning = 0; whole = ltb (t + 366) a })
-year_old {a} e f h = rw (e, f) (begins_old (subst (λ (k : ℕ). k < a) e h))
+pub year_old : {r y t : ℕ} {b : Bool} → t ≡ J.start y → b ≡ J.leap_at y → t < r → YearIn r y (record { first = t; leap = b; whole = ltb (t + 366) r })
+year_old {r} e f h = rw (e, f) (begins_old (subst (λ (k : ℕ). k < r) e h))
 
-pub year_new : {a b y t u : ℕ} {l : Bool} → t ≡ J.start y → u ≡ G.start y → l ≡ G.leap_at y → a ≤ t → YearIn a b y (record { first = u; leap = l; reckoning = 1; whole = leb b u })
-year_new {a} e g f h = rw (g, f) (begins_new (subst (λ (k : ℕ). a ≤ k) e h))
+pub year_new : {r y t u : ℕ} {b : Bool} → t ≡ J.start y → u ≡ G.start y → b ≡ G.leap_at y → r ≤ t → YearIn r y (record { first = u; leap = b; whole = leb r u })
+year_new {r} e g f h = rw (g, f) (begins_new (subst (λ (k : ℕ). r ≤ k) e h))
 
-pub year_in_room : {a b y : ℕ} {p : PlainYear} → BiasedYear y → YearIn a b y p → p.first < 2_000_000_000_000
+pub year_in_room : {r y : ℕ} {p : PlainYear} → BiasedYear y → YearIn r y p → p.first < 2_000_000_000_000
 year_in_room h (begins_old g) = omega (arith, h.to)
 year_in_room h (begins_new g) = omega (arith, h.to)
 
 -- a year that is wholly in one, with its first day there and whether it is leap there
-pub data Wholly (a b y : ℕ) : ℕ → Bool → ℕ → Type 0 where
-  wholly_old : J.start y + 366 < a → Wholly a b y (J.start y) (J.leap_at y) 0
-  wholly_new : a ≤ J.start y → b ≤ G.start y → Wholly a b y (G.start y) (G.leap_at y) 1
+pub data Wholly (r y : ℕ) : ℕ → Bool → Type 0 where
+  wholly_old : J.start y + 366 < r → Wholly r y (J.start y) (J.leap_at y)
+  wholly_new : r ≤ J.start y → r ≤ G.start y → Wholly r y (G.start y) (G.leap_at y)
 
-pub year_wholly : {a b y : ℕ} {p : PlainYear} → YearIn a b y p → p.whole ≡ true → Wholly a b y p.first p.leap p.reckoning
-year_wholly {a} {b} {y} (begins_old g) e = wholly_old (ltb→lt (J.start y + 366) a (subst T (sym e) tt))
-year_wholly {a} {b} {y} (begins_new g) e = wholly_new g (leb→le b (G.start y) (subst T (sym e) tt))
-
-pub wholly_room : {a b y t v : ℕ} {l : Bool} → BiasedYear y → Wholly a b y t l v → t < 2_000_000_000_000
-wholly_room h (wholly_old g) = omega (arith, h.to)
-wholly_room h (wholly_new f g) = omega (arith, h.to)
+pub year_wholly : {r y : ℕ} {p : PlainYear} → YearIn r y p → p.whole ≡ true → Wholly r y p.first p.leap
+year_wholly {r} {y} (begins_old g) e = wholly_old (ltb→lt (J.start y + 366) r (subst T (sym e) tt))
+year_wholly {r} {y} (begins_new g) e = wholly_new g (leb→le r (G.start y) (subst T (sym e) tt))
 
 -- no month of a year that begins from r on is over by r
 not_over : {r : ℕ} (y m d : ℕ) → r ≤ G.start y → There J.leap_at y m d → r < gregorian_past y m
@@ -160,12 +156,28 @@ not_over {r} y m d h t = after (G.start y) (days_before_value (G.leap_at y) m) h
     after s b h k = omega arith
 
 -- what its reckoning does not have there is nowhere in the other one
-pub wholly_none : {r : ℕ} (y : ℕ) {t m d v : ℕ} {b : Bool} → Wholly r r (biased_year_value y) t b v → ¬ ThereIn b m d → (¬ There G.leap_at (biased_year_value y) m d) × NoneBelow r y m d × NotOver r y m d
+pub wholly_none : {r : ℕ} (y : ℕ) {t m d : ℕ} {b : Bool} → Wholly r (biased_year_value y) t b → ¬ ThereIn b m d → (¬ There G.leap_at (biased_year_value y) m d) × NoneBelow r y m d × NotOver r y m d
 wholly_none y {m = m} {d} (wholly_old g) n = (λ v. n (there_too (biased_year_value y) m d v), λ v. absurd (n v), λ v. absurd (n v))
 wholly_none {r} y {m = m} {d} (wholly_new g h) n = (n, λ v. late (J.start (biased_year_value y)) (days_before_value (J.leap_at (biased_year_value y)) m) g v.2, not_over (biased_year_value y) m d h)
   where
     late : (s b : ℕ) → r ≤ s → 1 ≤ d → r ≤ s + b + d - 1
     late s b g h = omega arith
+
+-- it has as many days as in its reckoning
+pub wholly_days : {r : ℕ} (y : ℕ) {t : ℕ} {b : Bool} → Wholly r y t b → year_first r (y + 1) - year_first r y ≡ year_length b
+wholly_days {r} y (wholly_old g) = days (J.start y) (year_length (J.leap_at y)) (first_julian r (J.start y) (G.start y) (omega arith))
+    (first_julian r (J.start (y + 1)) (G.start (y + 1)) (omega (arith, next, year_most (J.leap_at y))) ∙ next)
+  where
+    next : J.start (y + 1) ≡ J.start y + year_length (J.leap_at y)
+    next = ap J.start (add-one y) ∙ (J.starts).start_next y
+wholly_days {r} y (wholly_new g h) = days (G.start y) (year_length (G.leap_at y)) (first_gregorian r (J.start y) (G.start y) g h)
+    (first_gregorian r (J.start (y + 1)) (G.start (y + 1)) (later (J.start y) (year_length (J.leap_at y)) (ap J.start (add-one y) ∙ (J.starts).start_next y) g) (later (G.start y) (year_length (G.leap_at y)) next h) ∙ next)
+  where
+    next : G.start (y + 1) ≡ G.start y + year_length (G.leap_at y)
+    next = ap G.start (add-one y) ∙ (G.starts).start_next y
+
+    later : (s n : ℕ) {k : ℕ} → k ≡ s + n → r ≤ s → r ≤ k
+    later s n e h = omega arith
 
 -- ---- A reading from the ordinal of a month and a day
 pub ordinal_some : {leap : Bool} {m d o : ℕ} → OrdinalOf leap m d (DayOrdinal'.At o) → 1 ≤ o

@@ -26,11 +26,11 @@ year_span_one r y s t = (s.first_is ∙ sym t.first_is, s.past_is ∙ sym t.past
 not_both : {r : ℕ} (k : ℕ) → k < r → r ≤ k → ⊥
 not_both k g h = omega arith
 
-pub year_in_one : (a b y : ℕ) (p q : PlainYear) → YearIn a b y p → YearIn a b y q → p ≡ q
-year_in_one a b y p q (begins_old g) (begins_old h) = refl
-year_in_one a b y p q (begins_old g) (begins_new h) = absurd (not_both (J.start y) g h)
-year_in_one a b y p q (begins_new g) (begins_old h) = absurd (not_both (J.start y) h g)
-year_in_one a b y p q (begins_new g) (begins_new h) = refl
+pub year_in_one : (r y : ℕ) (p q : PlainYear) → YearIn r y p → YearIn r y q → p ≡ q
+year_in_one r y p q (begins_old g) (begins_old h) = refl
+year_in_one r y p q (begins_old g) (begins_new h) = absurd (not_both (J.start y) g h)
+year_in_one r y p q (begins_new g) (begins_old h) = absurd (not_both (J.start y) h g)
+year_in_one r y p q (begins_new g) (begins_new h) = refl
 
 pub spans_month_one : (r y m : ℕ) (a b : Spanned) → SpansMonth r y m a → SpansMonth r y m b → a ≡ b
 spans_month_one r y m a b (spans_month v) (spans_month w) = refl

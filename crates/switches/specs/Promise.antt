@@ -27,11 +27,10 @@ pub record YearSpan (r y a b : ℕ) : Type 0 where
   pub first_room : a < top
   pub past_room : b < top
 
--- a biased year in the reckoning in which it begins, Julian below day a or Gregorian from day b on: its first day, whether it is leap, which
--- reckoning it is, and whether it is wholly in it
-pub data YearIn (a b y : ℕ) : PlainYear → Type 0 where
-  begins_old : J.start y < a → YearIn a b y (record { first = J.start y; leap = J.leap_at y; reckoning = 0; whole = ltb (J.start y + 366) a })
-  begins_new : a ≤ J.start y → YearIn a b y (record { first = G.start y; leap = G.leap_at y; reckoning = 1; whole = leb b (G.start y) })
+-- a biased year in the reckoning in which it begins: its first day, whether it is leap, and whether it is wholly in that reckoning
+pub data YearIn (r y : ℕ) : PlainYear → Type 0 where
+  begins_old : J.start y < r → YearIn r y (record { first = J.start y; leap = J.leap_at y; whole = ltb (J.start y + 366) r })
+  begins_new : r ≤ J.start y → YearIn r y (record { first = G.start y; leap = G.leap_at y; whole = leb r (G.start y) })
 
 -- the month m of a biased year: its first day, the first day past it, and the first day of that month in the Gregorian reckoning
 abbrev pub month_span : ℕ → ℕ → ℕ → MonthSpan

@@ -49,35 +49,31 @@ pub fn year_span(switch: u64, year: u32) -> Span
     }
 }
 
-// A year in the reckoning in which it begins, where days are Julian below `old` and Gregorian from `new` on: its first day, whether it is leap,
-// which reckoning it is (0 is the Julian one, 1 the Gregorian one), and whether it is wholly in it: 366 days from the first on, and the day after
-// them, are before `old`, or the first one is not before `new`.
+// A year in the reckoning in which it begins: its first day, whether it is leap, and whether it is wholly in that reckoning: 366 days from the
+// first on, and the day after them, are before the switch, or the first one is not.
 #[derive(Drop)]
 pub struct PlainYear {
     pub first: u64,
     pub leap: bool,
-    pub reckoning: u32,
     pub whole: bool,
 }
 
-pub fn year_in(old: u64, new: u64, year: u32) -> PlainYear
-    ensures { YearIn old new (biased_year_value year) result }
+pub fn year_in(switch: u64, year: u32) -> PlainYear
+    ensures { YearIn switch (biased_year_value year) result }
 {
-    let julian = inner::julian_start(year);
-    if julian < old {
+    let old = inner::julian_start(year);
+    if old < switch {
         return PlainYear {
-            first: julian,
+            first: old,
             leap: inner::is_julian_leap(year),
-            reckoning: 0,
-            whole: julian + 366 < old,
+            whole: old + 366 < switch,
         };
     }
-    let gregorian = inner::gregorian_start(year);
+    let new = inner::gregorian_start(year);
     PlainYear {
-        first: gregorian,
+        first: new,
         leap: inner::is_gregorian_leap(year),
-        reckoning: 1,
-        whole: new <= gregorian,
+        whole: switch <= new,
     }
 }
 

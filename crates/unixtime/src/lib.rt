@@ -4,7 +4,7 @@ pub mod seconds;
 
 ghost use Rattle.unixtime.specs.Promise.{Unix2Jdn, AtUnixTime};
 
-use calendar::{Calendar, Date, Dated, Refusal, is_accepted, refusal_of};
+use calendar::{Calendar, Date, Dated, Refusal, Switch, refusal_of, switch_of};
 pub use seconds::jdn2unix;
 use seconds::{DaySecond, day_second};
 
@@ -40,14 +40,14 @@ pub fn unix2jdn(t: i64) -> DayTime
 pub fn at_unix_time(calendar: Calendar, t: i64) -> Timed
     ensures { AtUnixTime calendar t result }
 {
-    if is_accepted(calendar) {
-        return match unix2jdn(t) {
+    match switch_of(calendar) {
+        Switch::MadeUp => Timed::Refused(refusal_of(16, 0)),
+        Switch::At(_) => match unix2jdn(t) {
             DayTime::Refused(refusal) => Timed::Refused(refusal),
             DayTime::At(jdn, seconds) => match calendar.at_jdn(jdn) {
                 Dated::Refused(refusal) => Timed::Refused(refusal),
                 Dated::Date(date) => Timed::At(date, seconds),
             },
-        };
+        },
     }
-    Timed::Refused(refusal_of(16, 0))
 }

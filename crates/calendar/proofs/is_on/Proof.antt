@@ -1,4 +1,4 @@
--- `calendar::is_on` meets its promise.
+-- `calendar::is_on` meets its promise, number by number.
 -- Assumes nothing.
 use mathlib.Core.Path.{◌≡◌, ◌∙◌}
 use Prim.Native.Nat.{◌^◌}
@@ -16,35 +16,42 @@ jdn_is : (c : tie.After-raised) → unbias (2 ^ 31) c.raised.result ≡ (start c
 jdn_is c = c.raised.ensures ∙ to_z-of_z (sfits_of c.before.struct_told.given.1.1.1.1.1.1.1.0.1)
 
 returns : tie.Need-returns
-returns c = search rules
+returns c = λ q. c.if1.true q.ordinal_is
 
 returns-2 : tie.Need-returns-2
-returns-2 c = search rules
+returns-2 c = λ q. c.if2.true q.day_ordinal_is
 
 raised-requires : tie.Need-raised-requires
 raised-requires c κs = search rules
 
-cast-if3 : tie.Need-overflow-cast-if3
-cast-if3 c = search rules
+cast-today : tie.Need-overflow-cast-today
+cast-today c = search rules
+
+add-today : tie.Need-overflow-add-today
+add-today c = search rules
 
 add-if3 : tie.Need-overflow-add-if3
 add-if3 c = search rules
 
-add-if3-2 : tie.Need-overflow-add-if3-2
-add-if3-2 c = search rules
-
 returns-3 : tie.Need-returns-3
-returns-3 c = λ q. c.if3.true (on_day (start c.before).args.date (start c.before).args.style c.before.raised.result (start c.before).args.past (jdn_is c.before) q)
+returns-3 c = λ q. c.if3.true (on_day (start c.before).args.date (start c.before).args.switch c.before.raised.result (start c.before).args.past (jdn_is c.before) q)
 
 style-number-requires : tie.Need-style-number-requires
 style-number-requires c κs = search rules
 
+style-at-requires : tie.Need-style-at-requires
+style-at-requires c κs = search rules
+
+style-number-requires-2 : tie.Need-style-number-requires-2
+style-number-requires-2 c κs = search rules
+
 returns-4 : tie.Need-returns-4
 returns-4 c =
-    let e = c.before in
+    let e = c.before.before.before in
     let x = e.before in
     let a = start x in
-    rw c.style-number.ensures (on_by a.args.date a.args.style x.raised.result a.args.past (jdn_is x) x.before.before.before.before.if1.false x.before.before.if2.false e.if3.false)
+    rw (c.before.before.style-number.ensures, c.style-number2.ensures, c.before.style_at.ensures)
+    (on_by a.args.date a.args.switch x.raised.result a.args.past (jdn_is x) x.before.before.before.before.if1.false x.before.before.if2.false e.if3.false)
 
 pub is_on_spec : {M : Type 1} → statement M
 is_on_spec =
@@ -53,9 +60,11 @@ is_on_spec =
     returns
     returns-2
     raised-requires
-    cast-if3
+    cast-today
+    add-today
     add-if3
-    add-if3-2
     returns-3
     style-number-requires
+    style-at-requires
+    style-number-requires-2
     returns-4)

@@ -17,9 +17,6 @@ enum-told-2 c = search rules
 enum-known-calendar : tie.Need-enum-known-calendar
 enum-known-calendar c = search rules
 
-enum-told-3 : tie.Need-enum-told-3
-enum-told-3 c = search rules
-
 returns : tie.Need-returns
 returns c = rw c.enum_told.given.1
 
@@ -29,18 +26,6 @@ returns-2 c = rw c.enum-told2.given.1
 returns-3 : tie.Need-returns-3
 returns-3 c = rw c.before.calendar.given.1 (ap ReformDay'.Day (to_z-of_z (sfits_of c.known-told.given.0.1)))
 
-returns-4 : tie.Need-returns-4
-returns-4 c = rw c.enum-told3.given.1
-
 pub reform_day_spec : {M : Type 1} → statement M
 reform_day_spec =
-    tie.close
-    (tie.spec
-    enum_told
-    enum-told-2
-    enum-known-calendar
-    enum-told-3
-    returns
-    returns-2
-    returns-3
-    returns-4)
+    tie.close (tie.spec enum_told enum-told-2 enum-known-calendar returns returns-2 returns-3)

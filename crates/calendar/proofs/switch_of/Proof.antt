@@ -8,7 +8,7 @@ use mir.Facts.{to_z-of_z}
 use Rattle.days.specs.ClosedRuns.{julian_runs, gregorian_runs}
 use Rattle.switches.specs.Promise.{Judges}
 use Rattle.calendar.specs.Laws.{switch_accepted, switch_refused}
-use Rattle.calendar.specs.Natural.{SwitchIs, switches_at, switches_oft}
+use Rattle.calendar.specs.Natural.{SwitchIs, switches_at}
 use Rattle.calendar.specs.declared.Calendar.TheVariants.{Reforming}
 use Rattle.calendar.specs.declared.Calendar.{Calendar}
 use Rattle.calendar.specs.declared.Switch.TheVariants as Switch'
@@ -40,9 +40,6 @@ enum-known-day c = search rules
 enum-told-3 : tie.Need-enum-told-3
 enum-told-3 c = search rules
 
-enum-told-4 : tie.Need-enum-told-4
-enum-told-4 c = search rules
-
 returns : tie.Need-returns
 returns c = subst (λ (x : Calendar). SwitchIs x (Switch'.At 4_000_000_000_000)) (sym c.enum_told.given.1) (switches_at julian_runs)
 
@@ -59,9 +56,6 @@ returns-4 c =
     let a = c.before.before in
     subst (λ (x : Calendar). SwitchIs x Switch'.MadeUp) (sym (is a.before)) (switch_refused (rw c.enum-told3.given.1 at (judges a)))
 
-returns-5 : tie.Need-returns-5
-returns-5 c = switches_oft c.enum-told4.given.1
-
 pub switch_of_spec : {M : Type 1} → statement M
 switch_of_spec =
     tie.close
@@ -72,9 +66,7 @@ switch_of_spec =
     judge-requires
     enum-known-day
     enum-told-3
-    enum-told-4
     returns
     returns-2
     returns-3
-    returns-4
-    returns-5)
+    returns-4)

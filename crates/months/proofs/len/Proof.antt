@@ -5,7 +5,7 @@ use native.Mathlib.Omega.{arith}
 use borrow.Author.Rules.{rules}
 use mir.Facts.{to_z-of_z}
 use Rattle.calendar.specs.declared.Counted.TheVariants as Counted'
-use Rattle.months.specs.Laws.{span_is, span_refused, span_few, len_row}
+use Rattle.months.specs.Laws.{span_is, span_refused, span_ordered, span_few, len_row}
 use Rattle.months.specs.Natural.{SpanOf}
 use Rattle.months.proofs.len.Statement.{statement}
 use Rattle.months.proofs.len.Tie as tie
@@ -23,10 +23,10 @@ enum-known-s : tie.Need-enum-known-s
 enum-known-s c = search rules
 
 sub-t8 : tie.Need-overflow-sub-t8
-sub-t8 c = omega (arith, (span_few _ _ (span c.before)).ordered)
+sub-t8 c = omega (arith, span_ordered _ _ (span c.before))
 
 cast-t9 : tie.Need-overflow-cast-t9
-cast-t9 c = record { fits = omega (arith, (span_few _ _ (span c.before)).few) }
+cast-t9 c = record { fits = omega (arith, span_few _ _ (span c.before)) }
 
 returns : tie.Need-returns
 returns c = span_refused Counted'.Refused (rw (to_z-of_z c.before.before.before.before.ranges.year) at (rw c.before.refusal.given.1 at c.before.before.before.Span-of.ensures))

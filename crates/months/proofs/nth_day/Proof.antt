@@ -5,7 +5,7 @@ use native.Mathlib.Omega.{arith}
 use borrow.Author.Rules.{rules}
 use mir.Facts.{to_z-of_z}
 use Rattle.calendar.specs.declared.Counted.TheVariants as Counted'
-use Rattle.months.specs.Laws.{span_is, span_refused, span_few, off_low, off_high, nth_row, inside}
+use Rattle.months.specs.Laws.{span_is, span_refused, span_room, span_ordered, off_low, off_high, nth_row, inside}
 use Rattle.months.specs.Natural.{SpanOf}
 use Rattle.months.proofs.nth_day.Statement.{statement}
 use Rattle.months.proofs.nth_day.Tie as tie
@@ -29,7 +29,7 @@ returns : tie.Need-returns
 returns c = rw c.refusal-with.ensures (off_low _ _ (span c.before.before) _ c.before.if1.true)
 
 add-biased : tie.Need-overflow-add-biased
-add-biased c = record { fits = omega (arith, (span c.before.before).room, (span_few _ _ (span c.before.before)).ordered) }
+add-biased c = record { fits = omega (arith, span_room _ _ (span c.before.before), span_ordered _ _ (span c.before.before)) }
 
 sub-biased : tie.Need-overflow-sub-biased
 sub-biased c = search rules

@@ -5,8 +5,9 @@ use Prim.Native.Nat.{◌-◌}
 use borrow.Author.Rules.{rules}
 use mir.Facts.{to_z-of_z}
 use Rattle.inner.specs.Laws.{biased_year, raised_year_biased}
-use Rattle.calendar.specs.Laws.{switch_runs, switch_swedish, switch_made_up}
-use Rattle.months.specs.Natural.{switched, swedish, no_calendar}
+use Rattle.calendar.specs.Laws.{switch_runs, switch_made_up}
+use Rattle.months.specs.Laws.{span_made}
+use Rattle.months.specs.Natural.{no_calendar}
 use Rattle.months.proofs.span_of.Statement.{statement}
 use Rattle.months.proofs.span_of.Tie as tie
 
@@ -28,15 +29,6 @@ raised-requires c κs = search rules
 month-span-requires : tie.Need-month-span-requires
 month-span-requires c κs = search rules
 
-enum-told-2 : tie.Need-enum-told-2
-enum-told-2 c = search rules
-
-raised-requires-2 : tie.Need-raised-requires-2
-raised-requires-2 c κs = search rules
-
-month-span-requires-2 : tie.Need-month-span-requires-2
-month-span-requires-2 c κs = search rules
-
 returns : tie.Need-returns
 returns c = rw c.refusal-with.ensures (no_calendar (switch_made_up _ (rw c.before.enum_told.given.1 at c.before.before.before.switch-of.ensures)))
 
@@ -44,13 +36,7 @@ returns-2 : tie.Need-returns-2
 returns-2 c =
     let y = c.before in
     let n = y.before.before.before.before in
-    switched (switch_runs _ (rw y.before.before.switch.given.1 at n.switch-of.ensures)) (raised_year_biased y.raised.type-inv) (biased_year y.raised.result ∙ y.raised.ensures ∙ to_z-of_z n.before.ranges.year) c.month_span_lem.ensures
-
-returns-3 : tie.Need-returns-3
-returns-3 c =
-    let y = c.before in
-    let n = y.before.before.before in
-    swedish (switch_swedish _ (rw y.before.enum-told2.given.1 at n.switch-of.ensures)) (raised_year_biased y.raised2.type-inv) (biased_year y.raised2.result ∙ y.raised2.ensures ∙ to_z-of_z n.before.ranges.year) c.month-span2.ensures
+    span_made _ (switch_runs _ (rw y.before.before.switch.given.1 at n.switch-of.ensures)) (raised_year_biased y.raised.type-inv) (biased_year y.raised.result ∙ y.raised.ensures ∙ to_z-of_z n.before.ranges.year) c.month_span_lem.ensures
 
 pub span_of_spec : {M : Type 1} → statement M
 span_of_spec =
@@ -62,9 +48,5 @@ span_of_spec =
     enum-known-switch
     raised-requires
     month-span-requires
-    enum-told-2
-    raised-requires-2
-    month-span-requires-2
     returns
-    returns-2
-    returns-3)
+    returns-2)

@@ -1,28 +1,26 @@
 -- `months::year_length` meets its promise.
 -- Assumes nothing.
-use mathlib.Core.Path.{◌∙◌}
+use mathlib.Core.Path.{◌≡◌, ◌∙◌}
 use Prim.Native.Nat.{◌-◌}
+use native.Mathlib.Omega.{arith}
 use borrow.Author.Rules.{rules}
 use mir.Facts.{to_z-of_z}
+use Rattle.days.specs.BiasedDays.{year}
+use Rattle.days.specs.ClosedRuns.{Runs}
 use Rattle.inner.specs.Laws.{biased_year, raised_year_biased}
 use Rattle.inner.specs.Natural.{biased_year_value}
-use Rattle.calendar.specs.Laws.{switch_runs, switch_swedish, switch_made_up}
+use Rattle.calendar.specs.Calendars.{definition_of}
+use Rattle.calendar.specs.Laws.{switch_runs, switch_made_up}
 use Rattle.calendar.specs.Rows.{refuses}
-use Rattle.months.specs.Laws.{YearDays, switched_year, swedish_year, year_few, year_row}
+use Rattle.months.specs.Laws.{year_row, year_ordered, year_few}
 use Rattle.months.proofs.year_length.Statement.{statement}
 use Rattle.months.proofs.year_length.Tie as tie
 
-once : (c : tie.After-year-span) → YearDays c.before.before.before.before.before.before.args.calendar c.before.before.before.before.before.before.args.year c.year_span.result.first c.year_span.result.past
-once c =
-    let y = c.before in
-    let n = y.before.before.before.before in
-    switched_year n.before.args.calendar (switch_runs _ (rw y.before.before.switch.given.1 at n.switch-of.ensures)) (raised_year_biased y.raised.type-inv) (biased_year y.raised.result ∙ y.raised.ensures ∙ to_z-of_z n.before.ranges.year) c.year_span.ensures
+runs : (c : tie.After-known-told) → Runs (definition_of c.before.before.before.before.args.calendar) c.before.switch.given.0.0
+runs c = switch_runs _ (rw c.before.switch.given.1 at c.before.before.before.switch-of.ensures)
 
-oft : (c : tie.After-year-span2) → YearDays c.before.before.before.before.before.args.calendar c.before.before.before.before.before.args.year c.year-span2.result.first c.year-span2.result.past
-oft c =
-    let y = c.before in
-    let n = y.before.before.before in
-    swedish_year (biased_year_value y.raised2.result) (switch_swedish _ (rw y.before.enum-told2.given.1 at n.switch-of.ensures)) (biased_year y.raised2.result ∙ y.raised2.ensures ∙ to_z-of_z n.before.ranges.year) c.year-span2.ensures
+year_is : (c : tie.After-raised) → year (biased_year_value c.raised.result) ≡ c.before.before.before.before.before.args.year
+year_is c = biased_year c.raised.result ∙ c.raised.ensures ∙ to_z-of_z c.before.before.before.before.before.ranges.year
 
 switch-of-requires : tie.Need-switch-of-requires
 switch-of-requires c κs = search rules
@@ -42,29 +40,17 @@ raised-requires c κs = search rules
 year-span-requires : tie.Need-year-span-requires
 year-span-requires c κs = search rules
 
-count-requires : tie.Need-count-requires
-count-requires c κs = year_few c.before.before.before.before.before.before.args.calendar (once c)
+sub-t9 : tie.Need-overflow-sub-t9
+sub-t9 c = year_ordered c.before.before.before.before.before.before.before.args.calendar (runs c.before.before.before) (raised_year_biased c.before.before.raised.type-inv) (year_is c.before.before) c.before.year_span.ensures
 
-enum-told-2 : tie.Need-enum-told-2
-enum-told-2 c = search rules
-
-raised-requires-2 : tie.Need-raised-requires-2
-raised-requires-2 c κs = search rules
-
-year-span-requires-2 : tie.Need-year-span-requires-2
-year-span-requires-2 c κs = search rules
-
-count-requires-2 : tie.Need-count-requires-2
-count-requires-2 c κs = year_few c.before.before.before.before.before.args.calendar (oft c)
+cast-t8 : tie.Need-overflow-cast-t8
+cast-t8 c = record { fits = omega (arith, year_few c.before.before.before.before.before.before.before.args.calendar (runs c.before.before.before) (raised_year_biased c.before.before.raised.type-inv) (year_is c.before.before) c.before.year_span.ensures) }
 
 returns : tie.Need-returns
 returns c = rw c.refusal-with.ensures (refuses (switch_made_up _ (rw c.before.enum_told.given.1 at c.before.before.before.switch-of.ensures)))
 
 returns-2 : tie.Need-returns-2
-returns-2 c = rw c.count.ensures (year_row c.before.before.before.before.before.before.before.args.calendar (once c.before))
-
-returns-3 : tie.Need-returns-3
-returns-3 c = rw c.count2.ensures (year_row c.before.before.before.before.before.before.args.calendar (oft c.before))
+returns-2 c = year_row c.before.before.before.before.before.before.before.args.calendar (runs c.before.before.before) (raised_year_biased c.before.before.raised.type-inv) (year_is c.before.before) c.before.year_span.ensures
 
 pub year_length_spec : {M : Type 1} → statement M
 year_length_spec =
@@ -76,11 +62,7 @@ year_length_spec =
     enum-known-switch
     raised-requires
     year-span-requires
-    count-requires
-    enum-told-2
-    raised-requires-2
-    year-span-requires-2
-    count-requires-2
+    sub-t9
+    cast-t8
     returns
-    returns-2
-    returns-3)
+    returns-2)

@@ -10,8 +10,7 @@ use Rattle.ncal.proofs.of_seven.Tie as tie
 returns : tie.Need-returns
 unfolding table bytes
 returns c =
-    after _ _ c.or10.ensures
-    (let c = c.before.before in after _ _ c.or9.ensures
+    after _ _ c.or9.ensures
     (let c = c.before.before in after _ _ c.or8.ensures
     (let c = c.before.before in after _ _ c.or7.ensures
     (let c = c.before.before in after _ _ c.or6.ensures
@@ -19,14 +18,12 @@ returns c =
     (let c = c.before.before in after _ _ c.or4.ensures
     (let c = c.before.before in after _ _ c.or3.ensures
     (let c = c.before.before in after _ _ c.or2.ensures
-    (let c = c.before.before in c.or.ensures)))))))))
+    (let c = c.before.before in c.or.ensures))))))))
 
 pub of_seven_spec : {M : Type 1} → statement M
 of_seven_spec =
     tie.close
     (tie.spec
-    (λ c. refl)
-    (λ c κs. tt)
     (λ c. refl)
     (λ c κs. tt)
     (λ c. refl)

@@ -198,9 +198,9 @@ module _ (E : enum.Declared) (L' : EL.Laws E) (few : Few (enum.shape E)) (flat :
     abbrev to_then : E.D → Val → ℕ → (ThenTold 𝓛).Ghost
     to_then r u m = ((tt, tt, tt, (r, (m, tt)), (u ∷ [], (vint w64 m ∷ [], tt))), tt)
 
-    goes_then : (r : E.D) (u : Val) (m : ℕ) → m < 2 ^ 64 → ent 𝓤 (sem 𝓛 (S.own_val r (u ∷ []))) ((ThenTold 𝓛).pre (to_then r u m))
+    goes_then : (r : E.D) (u : Val) (m : ℕ) → m < 2 ^ 64 → ent 𝓤 (sem 𝓛 (S.own r (u ∷ []))) ((ThenTold 𝓛).pre (to_then r u m))
     goes_then r u m m-fits =
-        qed 𝓛 (‵ (S.own_val r (u ∷ [])) ∷ []) ∵ nothing ! $ owned ! usize (Is usize) (uint_Makes 𝓛 w64) m _ (refl, m-fits) $ fjoin ! $ move ! (1 ∷ 0 ∷ []) $ fjoin ! $ nothing ! $ join ! $ frame ! $ done !
+        qed 𝓛 (‵ (S.own r (u ∷ [])) ∷ []) ∵ nothing ! $ owned ! usize (Is usize) (uint_Makes 𝓛 w64) m _ (refl, m-fits) $ fjoin ! $ move ! (1 ∷ 0 ∷ []) $ fjoin ! $ nothing ! $ join ! $ frame ! $ done !
 
     exits : (y : Reply) (w : Val) → ent 𝓤 (⋆ 𝓛 (‵ ((P.the_row).own_val y (w ∷ [])) ∷ ‵ (flft κ q) ∷ ‵ Own ∷ [])) (Post w)
     exits y w =
@@ -221,7 +221,7 @@ module _ (E : enum.Declared) (L' : EL.Laws E) (few : Few (enum.shape E)) (flat :
           -- the reader owns what the text owns, which is kept too
           move ! (15 ∷ []) $ fsplit ! $ use1 𝓛 (‵ Own ⊛ ‵ Own) ((shr_slice_copy 𝓛 (named 0) κ u8).twice s (v ∷ [])) $ split ! $
           nothing ! $ owned ! usize (Is usize) (uint_Makes 𝓛 w64) n _ (refl, fits) $ fjoin ! $ move ! (1 ∷ 0 ∷ []) $ fjoin ! $
-          use1 𝓛 (‵ ((B κ).own_val h (T'.lowered h ∷ []))) (own_shut 𝓛 D L (s, (n, tt))) $
+          use1 𝓛 (‵ ((B κ).own h (T'.lowered h ∷ []))) (own_shut 𝓛 D L (s, (n, tt))) $
           -- [what the reader owns; what the text owns; the rest of it; _6; …; _5; …; _4; …; _3; …; _2; …; _1; …; room for _0; …; the token]
           move ! (9 ∷ 0 ∷ []) $ use2 𝓛 (‵ (part_at (B κ) full_share h l₃ 0)) (part_in_at 𝓛 (B κ) refl full_share h l₃ 0 (T'.mir erased) refl (T'.lowered h)) $
           -- the loan's lifetime: a new one within the text's
@@ -233,7 +233,7 @@ module _ (E : enum.Declared) (L' : EL.Laws E) (few : Few (enum.shape E)) (flat :
           await ! tt $ pick ! (λ δ. split ! $ move ! (2 ∷ 4 ∷ 0 ∷ []) $ use3 𝓛 (raw ((ReadNext 𝓛).pre (to_read l₃ a δ))) (goes_read l₃ a δ) $
           -- [what the read asks; the lender's part; what ends the loan; true; what the text owns; the rest; _6; …; _5; …; _4; …; …; _2; …; _1; …; room for _0; …]
           calls_at ! fm (ReadNext 𝓛) known_read (to_read l₃ a δ) (and_then ! (load ! (from ! (stop !)) (look ! 8 refl)) (no_more !)) (λ u.
-          use1 𝓛 (later (some (λ (r : E.D). ((‵ (flft (a ∷ κ) q₁) ⊛ ‵ (flft κ q₂) ⊛ ‵ ftrue) ⊛ ‵ (S.own_val r (u ∷ []))) ⊛ raw (ensured 𝓛 read_ended (read_clauses 𝓤) (a ∷ κ, (κ, tt)) (x l₃ δ, tt) tt r)))) (id⊢ 𝓤 _) $ await ! tt $ pick ! (λ r.
+          use1 𝓛 (later (some (λ (r : E.D). ((‵ (flft (a ∷ κ) q₁) ⊛ ‵ (flft κ q₂) ⊛ ‵ ftrue) ⊛ ‵ (S.own r (u ∷ []))) ⊛ raw (ensured 𝓛 read_ended (read_clauses 𝓤) (a ∷ κ, (κ, tt)) (x l₃ δ, tt) tt r)))) (id⊢ 𝓤 _) $ await ! tt $ pick ! (λ r.
           split ! $ move ! (1 ∷ []) $ use1 𝓛 (some (λ (zs : Reader × Unit {0}). ‵ (lasts read_ended (a ∷ κ, (κ, tt)) (x l₃ δ, tt) zs) ⊛ raw (fact 𝓤 (Said r zs.0)))) (id⊢ 𝓤 _) $ pick ! (λ zs.
           split ! $ move ! (1 ∷ []) $ heard ! (Said r zs.0) (λ e. fsplit ! $
           -- [the last value; true; the tokens and the answer; the lender's part; what ends the loan; true; what the text owns; the rest; _6; …]
@@ -244,7 +244,7 @@ module _ (E : enum.Declared) (L' : EL.Laws E) (few : Few (enum.shape E)) (flat :
           move ! (2 ∷ []) $ split ! $ move ! (3 ∷ 0 ∷ []) $ use2 𝓛 (‵ (flft κ q)) (𝓛.lfts.lft_join κ q) $
           -- [the text's token; true; the loan's end; what the answer owns; the last value; true; the lender's part; true; what the text owns; the rest; _6; …]
           move ! (2 ∷ 6 ∷ 4 ∷ []) $ use3 𝓛 (later (‵ (part_at (B κ) full_share zs.0 l₃ 0))) (ref_back 𝓛 (B κ) (a ∷ κ) δ zs.0 l₃ 0) $ await ! tt $
-          use1 𝓛 (some (λ (w : Val). ‵ (fat full_share (T'.mir erased) l₃ 0 w) ⊛ ‵ ((B κ).own_val zs.0 (w ∷ [])))) (part_out_at 𝓛 (B κ) refl full_share zs.0 l₃ 0 (T'.mir erased) refl) $ pick ! (λ w. split ! $ move ! (1 ∷ []) $
+          use1 𝓛 (some (λ (w : Val). ‵ (fat full_share (T'.mir erased) l₃ 0 w) ⊛ ‵ ((B κ).own zs.0 (w ∷ [])))) (part_out_at 𝓛 (B κ) refl full_share zs.0 l₃ 0 (T'.mir erased) refl) $ pick ! (λ w. split ! $ move ! (1 ∷ []) $
           peeks ! (B κ) (Is (B κ)) (shows 𝓛 (B κ)) zs.0 (w ∷ []) (λ isw.
           rewrite ! 1 (λ (u' : Val). ‵ (fat full_share (T'.mir erased) l₃ 0 u')) (ap only (LL.tells D L zs.0 _ isw)) refl $ drop ! $
           -- [_3; the token; true; what the answer owns; true; true; what the text owns; the rest; _6; …; _5; …; _4; …; …; _2; …; _1; …; room for _0; …]

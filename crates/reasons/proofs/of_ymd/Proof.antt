@@ -1,6 +1,5 @@
 -- `reasons::of_ymd` meets its promise.
 -- Assumes nothing.
-use mathlib.Core.Path.{refl}
 use mir.Facts.{to_z-of_z}
 use Rattle.reasons.specs.Laws.{ymd_date, ymd_missing, ymd_skipped, ymd_outside, skipped_ymd}
 use Rattle.days.specs.DayByDay.{label}
@@ -37,10 +36,10 @@ returns c = rw (to_z-of_z c.before.before.before.before.before.before.before.ran
 skipped-requires : tie.Need-skipped-requires
 skipped-requires c κs =
     let k = c.before.before.before.before.before.before.before.before in
-    rw (to_z-of_z k.ranges.year) (k.requires.0, (_, refl, skips c))
+    (k.requires.0, (_, skips c))
 
 returns-2 : tie.Need-returns-2
-returns-2 c = skipped_ymd (skips c.before) (rw (to_z-of_z c.before.before.before.before.before.before.before.before.before.ranges.year) at c.skipped.ensures)
+returns-2 c = skipped_ymd (skips c.before) c.skipped.ensures
 
 outside-requires : tie.Need-outside-requires
 outside-requires c κs = search rules

@@ -11,8 +11,8 @@ julian-start-requires c κs = search rules
 is-julian-leap-requires : tie.Need-is-julian-leap-requires
 is-julian-leap-requires c κs = search rules
 
-add-t8 : tie.Need-overflow-add-t8
-add-t8 c = search rules
+add-t7 : tie.Need-overflow-add-t7
+add-t7 c = search rules
 
 returns : tie.Need-returns
 returns c = year_old c.before.before.julian-start.ensures c.is-julian-leap.ensures c.before.if1.true
@@ -32,7 +32,7 @@ year_in_spec =
     (tie.spec
     julian-start-requires
     is-julian-leap-requires
-    add-t8
+    add-t7
     returns
     gregorian-start-requires
     is-gregorian-leap-requires

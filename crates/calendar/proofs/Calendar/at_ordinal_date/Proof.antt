@@ -1,16 +1,47 @@
 -- `calendar::Calendar::at_ordinal_date` meets its promise.
 -- Assumes nothing.
+use Prim.Native.Nat.{◌-◌}
 use borrow.Author.Rules.{rules}
 use mir.Facts.{to_z-of_z}
-use Rattle.calendar.specs.Packing.{ordinal_placeless, text_none}
+use Rattle.days.specs.ClosedRuns.{Runs}
+use Rattle.calendar.specs.Calendars.{definition_of}
+use Rattle.calendar.specs.Laws.{switch_runs, switch_made_up}
+use Rattle.calendar.specs.Rows.{refuses}
 use Rattle.calendar.proofs.Calendar.at_ordinal_date.Statement.{statement}
 use Rattle.calendar.proofs.Calendar.at_ordinal_date.Tie as tie
 
-of-ordinal-requires : tie.Need-of-ordinal-requires
-of-ordinal-requires c κs = search rules
+runs : (c : tie.After-known-told) → Runs (definition_of c.before.before.before.before.args.self) c.before.switch.given.0.0
+runs c = switch_runs _ (rw c.before.switch.given.1 at c.before.before.before.switch-of.ensures)
+
+switch-of-requires : tie.Need-switch-of-requires
+switch-of-requires c κs = search rules
+
+enum_told : tie.Need-enum-told
+enum_told c = search rules
+
+made-up-requires : tie.Need-made-up-requires
+made-up-requires c κs = search rules
+
+enum-known-switch : tie.Need-enum-known-switch
+enum-known-switch c = search rules
+
+on-ordinal-requires : tie.Need-on-ordinal-requires
+on-ordinal-requires c κs = runs c
 
 returns : tie.Need-returns
-returns c = rw (to_z-of_z c.before.ranges.year) at (text_none (λ f p. ordinal_placeless p) c.of_ordinal.ensures)
+returns c = rw c.made_up.ensures (refuses (switch_made_up _ (rw c.before.enum_told.given.1 at c.before.before.before.switch-of.ensures)))
+
+returns-2 : tie.Need-returns-2
+returns-2 c = rw (to_z-of_z c.before.before.before.before.before.ranges.year) at c.on_ordinal.ensures
 
 pub at_ordinal_date_spec : {M : Type 1} → statement M
-at_ordinal_date_spec = tie.close (tie.spec of-ordinal-requires returns)
+at_ordinal_date_spec =
+    tie.close
+    (tie.spec
+    switch-of-requires
+    enum_told
+    made-up-requires
+    enum-known-switch
+    on-ordinal-requires
+    returns
+    returns-2)

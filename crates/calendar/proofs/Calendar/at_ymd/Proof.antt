@@ -1,15 +1,47 @@
 -- `calendar::Calendar::at_ymd` meets its promise.
 -- Assumes nothing.
+use Prim.Native.Nat.{◌-◌}
 use borrow.Author.Rules.{rules}
 use mir.Facts.{to_z-of_z}
+use Rattle.days.specs.ClosedRuns.{Runs}
+use Rattle.calendar.specs.Calendars.{definition_of}
+use Rattle.calendar.specs.Laws.{switch_runs, switch_made_up}
+use Rattle.calendar.specs.Rows.{refuses}
 use Rattle.calendar.proofs.Calendar.at_ymd.Statement.{statement}
 use Rattle.calendar.proofs.Calendar.at_ymd.Tie as tie
 
-of-label-requires : tie.Need-of-label-requires
-of-label-requires c κs = search rules
+runs : (c : tie.After-known-told) → Runs (definition_of c.before.before.before.before.args.self) c.before.switch.given.0.0
+runs c = switch_runs _ (rw c.before.switch.given.1 at c.before.before.before.switch-of.ensures)
+
+switch-of-requires : tie.Need-switch-of-requires
+switch-of-requires c κs = search rules
+
+enum_told : tie.Need-enum-told
+enum_told c = search rules
+
+made-up-requires : tie.Need-made-up-requires
+made-up-requires c κs = search rules
+
+enum-known-switch : tie.Need-enum-known-switch
+enum-known-switch c = search rules
+
+on-label-requires : tie.Need-on-label-requires
+on-label-requires c κs = runs c
 
 returns : tie.Need-returns
-returns c = rw (to_z-of_z c.before.ranges.year) at c.of-label.ensures
+returns c = rw c.made_up.ensures (refuses (switch_made_up _ (rw c.before.enum_told.given.1 at c.before.before.before.switch-of.ensures)))
+
+returns-2 : tie.Need-returns-2
+returns-2 c = rw (to_z-of_z c.before.before.before.before.before.ranges.year) at c.on_label.ensures
 
 pub at_ymd_spec : {M : Type 1} → statement M
-at_ymd_spec = tie.close (tie.spec of-label-requires returns)
+at_ymd_spec =
+    tie.close
+    (tie.spec
+    switch-of-requires
+    enum_told
+    made-up-requires
+    enum-known-switch
+    on-label-requires
+    returns
+    returns-2)

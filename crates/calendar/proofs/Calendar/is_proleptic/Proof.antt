@@ -1,28 +1,44 @@
 -- `calendar::Calendar::is_proleptic` meets its promise.
 -- Assumes nothing.
+use mathlib.Core.Bool.{not}
 use mathlib.Core.Path.{ap}
+use Prim.Native.Nat.{◌-◌}
 use borrow.Author.Rules.{rules}
+use Rattle.calendar.specs.Laws.{switch_runs, switch_made_up}
 use Rattle.calendar.specs.Rows.{refuses, passes}
 use Rattle.calendar.specs.declared.Told.TheVariants as Told'
 use Rattle.calendar.proofs.Calendar.is_proleptic.Statement.{statement}
 use Rattle.calendar.proofs.Calendar.is_proleptic.Tie as tie
 
-is-accepted-requires : tie.Need-is-accepted-requires
-is-accepted-requires c κs = search rules
+switch-of-requires : tie.Need-switch-of-requires
+switch-of-requires c κs = search rules
 
-has-one-reckoning-requires : tie.Need-has-one-reckoning-requires
-has-one-reckoning-requires c κs = search rules
-
-returns : tie.Need-returns
-returns c = passes (rw c.before.if1.true at c.before.before.is-accepted.ensures) (ap Told'.Is c.has-one-reckoning.ensures)
+enum_told : tie.Need-enum-told
+enum_told c = search rules
 
 refusal-of-requires : tie.Need-refusal-of-requires
 refusal-of-requires c κs = search rules
 
+enum-told-2 : tie.Need-enum-told-2
+enum-told-2 c = search rules
+
+reforms-requires : tie.Need-reforms-requires
+reforms-requires c κs = search rules
+
+returns : tie.Need-returns
+returns c = rw c.refusal-of.ensures (refuses (switch_made_up _ (rw c.before.enum_told.given.1 at c.before.before.before.switch-of.ensures)))
+
 returns-2 : tie.Need-returns-2
-returns-2 c = rw c.refusal-of.ensures (refuses (rw c.before.if1.false at c.before.before.is-accepted.ensures))
+returns-2 c = passes (switch_runs _ (rw c.before.enum-told2.given.1 at c.before.before.before.switch-of.ensures)).accepted (ap Told'.Is (ap not c.reforms.ensures))
 
 pub is_proleptic_spec : {M : Type 1} → statement M
 is_proleptic_spec =
     tie.close
-    (tie.spec is-accepted-requires has-one-reckoning-requires returns refusal-of-requires returns-2)
+    (tie.spec
+    switch-of-requires
+    enum_told
+    refusal-of-requires
+    enum-told-2
+    reforms-requires
+    returns
+    returns-2)

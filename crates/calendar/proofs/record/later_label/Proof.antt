@@ -1,72 +1,71 @@
 -- `calendar::record::later_label` meets its promise.
 -- Assumes nothing.
-use mathlib.Core.Path.{◌∙◌, ap}
-use Prim.Native.Nat.{◌/◌, ◌%◌, ◌^◌}
-use Rattle.whole.specs.Promise.{unbias}
-use borrow.Author.Rules.{rules, sfits_of}
-use mir.Facts.{to_z-of_z}
-use Rattle.calendar.specs.declared.Dated.TheVariants as Dated'
-use Rattle.calendar.specs.declared.packing.Asked.TheVariants as Asked'
-use Rattle.calendar.specs.Natural.{in_text_value, style_by_value}
-use Rattle.calendar.specs.One.{whole}
-use Rattle.calendar.specs.Packing.{SlowAnswer, refusal_by_value, label_refused, label_unpacked, packs_room}
+use mathlib.Core.Path.{◌≡◌}
+use Prim.Native.Nat.{ℕ, ◌+◌, ◌-◌, ◌/◌, ◌%◌, ◌≤◌}
+use native.Mathlib.Omega.{arith}
+use borrow.Author.Rules.{rules}
+use Rattle.calendar.specs.Natural.{LabelAt}
+use Rattle.calendar.specs.Laws.{label_turning, later_refused, later_at, later_first, place_room}
+use Rattle.calendar.specs.declared.Style.TheVariants as Style'
 use Rattle.calendar.proofs.record.later_label.Statement.{statement}
 use Rattle.calendar.proofs.record.later_label.Tie as tie
 
-answered : (c : tie.After-slow) → SlowAnswer c.before.args.calendar (Asked'.Label c.before.args.year c.before.args.month c.before.args.day) c.slow.result
-answered c = rw (to_z-of_z c.before.ranges.year) at c.slow.ensures
+abbrev start : tie.After-earlier → tie.Start
+start c = c.before.before.before.before
 
-slow-requires : tie.Need-slow-requires
-slow-requires c κs = search rules
+nought : {m : ℕ} → m ≡ 0 → 1 ≤ m → ⊥
+nought e h = omega arith
 
-refusal-by-requires : tie.Need-refusal-by-requires
-refusal-by-requires c κs = search rules
+placed : (c : tie.After-earlier) → LabelAt (start c).args.switch (start c).args.year (start c).args.month (start c).args.day
+    (record { past = c.earlier.result + c.before.before.before.turning.result / 4_294_967_296; ordinal = c.before.before.before.turning.result / 4_294_967_296; month = (start c).args.month; day = (start c).args.day; day_ordinal = c.before.before.before.turning.result % 4_294_967_296; style = Style'.Gregorian })
+placed c =
+    let a = start c in
+    later_at a.args.year a.pre.1 (label_turning a.args.month a.pre.0.0 c.before.before.before.turning.ensures) c.before.before.if1.false
+    (later_first a.args.year a.pre.1 c.before.julian-start.ensures c.earlier.ensures)
 
-in-text-requires : tie.Need-in-text-requires
-in-text-requires c κs = search rules
+turning-requires : tie.Need-turning-requires
+turning-requires c κs = λ e. absurd (nought e c.requires.0.0)
+
+cast-refusal-with : tie.Need-overflow-cast-refusal-with
+cast-refusal-with c = search rules
+
+refusal-with-requires : tie.Need-refusal-with-requires
+refusal-with-requires c κs = search rules
 
 returns : tie.Need-returns
 returns c =
-    let s = c.before.before.before in
-    (Dated'.Refused (refusal_by_value s.slow.result), label_refused (answered s) c.before.before.if1.true, ap Dated'.Refused (c.in_text.ensures ∙ ap (in_text_value s.before.args.place) c.before.refusal-by.ensures))
+    let a = c.before.before.before in
+    rw c.refusal-with.ensures (later_refused a.args.year a.requires.1 (label_turning a.args.month a.requires.0.0 c.before.before.turning.ensures) c.before.if1.true)
 
-style-by-requires : tie.Need-style-by-requires
-style-by-requires c κs = search rules
+julian-start-requires : tie.Need-julian-start-requires
+julian-start-requires c κs = search rules
 
-cast-t16 : tie.Need-overflow-cast-t16
-cast-t16 c = search rules
+earlier-requires : tie.Need-earlier-requires
+earlier-requires c κs = search rules
 
-cast-t18 : tie.Need-overflow-cast-t18
-cast-t18 c = search rules
+add-t11 : tie.Need-overflow-add-t11
+add-t11 c = record { fits = omega (arith, place_room (placed c).0) }
 
-cast-lowered : tie.Need-overflow-cast-lowered
-cast-lowered c = record { fits = packs_room (answered c.before.before).2 c.before.if1.false }
+cast-t13 : tie.Need-overflow-cast-t13
+cast-t13 c = search rules
 
-lowered-requires : tie.Need-lowered-requires
-lowered-requires c κs = search rules
+cast-t15 : tie.Need-overflow-cast-t15
+cast-t15 c = search rules
 
 returns-2 : tie.Need-returns-2
-unfolding whole
-returns-2 c =
-    let s = c.before.before.before in
-    let a = s.before in
-    let t = s.slow.result in (
-      Dated'.Date (whole a.args.calendar a.args.year (t / 1_048_576 % 512) a.args.month a.args.day (t % 512) (unbias (2 ^ 31) (t / 536_870_912)) (style_by_value (t / 262_144 % 4))),
-      label_unpacked (answered s) c.before.before.if1.false,
-      rw (c.before.style-by.ensures, to_z-of_z a.ranges.year, to_z-of_z (sfits_of c.lowered.type-inv), c.lowered.ensures),
-    )
+returns-2 c = placed c
 
 pub later_label_spec : {M : Type 1} → statement M
 later_label_spec =
     tie.close
     (tie.spec
-    slow-requires
-    refusal-by-requires
-    in-text-requires
+    turning-requires
+    cast-refusal-with
+    refusal-with-requires
     returns
-    style-by-requires
-    cast-t16
-    cast-t18
-    cast-lowered
-    lowered-requires
+    julian-start-requires
+    earlier-requires
+    add-t11
+    cast-t13
+    cast-t15
     returns-2)

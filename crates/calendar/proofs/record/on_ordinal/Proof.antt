@@ -1,125 +1,67 @@
 -- `calendar::record::on_ordinal` meets its promise.
 -- Assumes nothing.
-use mathlib.Core.Path.{◌≡◌, sym, ◌∙◌, subst₂}
-use mathlib.Core.Logic.{inl, inr}
-use Prim.Native.Nat.{ℕ, ◌+◌, ◌-◌}
-use native.Mathlib.Omega.{arith}
-use borrow.Author.Rules.{rules, sfits_of}
+use mathlib.Core.Path.{◌≡◌, ◌∙◌}
+use Prim.Native.Nat.{◌-◌}
+use borrow.Author.Rules.{rules}
+use mir.Syntax.{w32}
+use mir.Val.{to_z, of_z}
 use mir.Facts.{to_z-of_z}
-use Rattle.days.specs.BiasedDays.{day_bias, day, year}
-use Rattle.days.specs.DayByDay.{OfYear}
-use Rattle.days.specs.RisingSpans.{Stretch}
-use Rattle.days.specs.ClosedRuns.{year_stretch}
+use Rattle.days.specs.BiasedDays.{year}
 use Rattle.inner.specs.Laws.{biased_year, raised_year_biased}
 use Rattle.inner.specs.Natural.{biased_year_value}
-use Rattle.calendar.specs.declared.Dated.{Dated}
-use Rattle.calendar.specs.Calendars.{labels}
-use Rattle.calendar.specs.Promise.{Given, AtOrdinal}
-use Rattle.calendar.specs.Laws.{given_biased, given_far, given_none}
-use Rattle.calendar.specs.SwedishDates.{off_the_year, on_the_year}
+use Rattle.calendar.specs.Laws.{ordinal_placed, place_some, place_record, place_ordinal, off_row}
 use Rattle.calendar.proofs.record.on_ordinal.Statement.{statement}
 use Rattle.calendar.proofs.record.on_ordinal.Tie as tie
 
+biased_year_is : (c : tie.After-raised) → year (biased_year_value c.raised.result) ≡ to_z w32 (of_z w32 c.before.args.year)
+biased_year_is c = biased_year c.raised.result ∙ c.raised.ensures
+
 year_is : (c : tie.After-raised) → year (biased_year_value c.raised.result) ≡ c.before.args.year
-year_is c = biased_year c.raised.result ∙ c.raised.ensures ∙ to_z-of_z c.before.ranges.year
-
-days_of : (c : tie.After-year-span) → Stretch (labels c.before.before.args.calendar) (OfYear (year (biased_year_value c.before.raised.result))) day_bias c.year_span.result.first c.year_span.result.past
-days_of c =
-    let s = c.year_span.ensures in
-    subst₂ (λ (a b : ℕ). Stretch (labels c.before.before.args.calendar) (OfYear (year (biased_year_value c.before.raised.result))) day_bias a b) (sym s.first_is) (sym s.past_is)
-    (year_stretch c.before.before.requires (biased_year_value c.before.raised.result) (raised_year_biased c.before.raised.type-inv))
-
-abbrev start : tie.After-day-number → tie.Start
-start c = c.before.before.before.before.before.before.before
-
--- the day at that place
-on : (c : tie.After-day-number) {a : Dated} → Given (start c).args.calendar (start c).args.year (day (c.before.before.before.before.before.year_span.result.first + (start c).args.ordinal - 1)) a
-    → AtOrdinal (start c).args.calendar (start c).args.year (start c).args.ordinal a
-on c g =
-    let y = c.before.before.before.before.before in
-    on_the_year (start c).requires.accepted (biased_year_value y.before.raised.result) (year_is y.before) (days_of y) (omega (arith, c.before.before.before.if1.false)) (omega (arith, c.before.if2.false)) g
+year_is c = biased_year_is c ∙ to_z-of_z c.before.ranges.year
 
 raised-requires : tie.Need-raised-requires
 raised-requires c κs = search rules
 
-year-span-requires : tie.Need-year-span-requires
-year-span-requires c κs = search rules
+ordinal-place-requires : tie.Need-ordinal-place-requires
+ordinal-place-requires c κs = (c.before.args.calendar, c.before.requires)
 
-add-past : tie.Need-overflow-add-past
-add-past c = search rules
+enum-known-p : tie.Need-enum-known-p
+enum-known-p c = search rules
 
-refused-count-requires : tie.Need-refused-count-requires
-refused-count-requires c κs = search rules
+given-requires : tie.Need-given-requires
+given-requires c κs =
+    let n = c.before.before.before in
+    let y = n.before in
+    let a = y.before in
+    let (i, e) = ordinal_placed (rw c.before.p.given.1 at n.ordinal-place.ensures) in
+    (place_some a.args.calendar a.requires (biased_year_is y) i, place_record a.args.calendar a.requires (biased_year_is y) i)
+
+enum-known-refusal : tie.Need-enum-known-refusal
+enum-known-refusal c = search rules
 
 returns : tie.Need-returns
 returns c =
-    let y = c.before.before.before in
-    rw c.refused-count.ensures (off_the_year y.before.before.requires.accepted (biased_year_value y.before.raised.result) (year_is y.before) (days_of y) (inl (omega (arith, c.before.if1.true))))
-
-refused-count-requires-2 : tie.Need-refused-count-requires-2
-refused-count-requires-2 c κs = search rules
+    let n = c.before.before.before.before in
+    let y = n.before in
+    let a = y.before in
+    let (i, e) = ordinal_placed (rw c.before.before.p.given.1 at n.ordinal-place.ensures) in
+    place_ordinal a.args.calendar a.requires (year_is y) i e (rw (to_z-of_z a.ranges.year) at c.given.ensures)
 
 returns-2 : tie.Need-returns-2
 returns-2 c =
-    let y = c.before.before.before.before.before in
-    rw c.refused-count2.ensures (off_the_year y.before.before.requires.accepted (biased_year_value y.before.raised.result) (year_is y.before) (days_of y) (inr c.before.if2.true))
-
-sub-day-number : tie.Need-overflow-sub-day-number
-sub-day-number c = search rules
-
-day-number-requires : tie.Need-day-number-requires
-day-number-requires c κs = search rules
-
-enum-known-jdn : tie.Need-enum-known-jdn
-enum-known-jdn c = search rules
-
-on-day-requires : tie.Need-on-day-requires
-on-day-requires c κs = search rules
-
-enum_told : tie.Need-enum-told
-enum_told c = search rules
-
-refused-year-requires : tie.Need-refused-year-requires
-refused-year-requires c κs = search rules
-
-enum-told-2 : tie.Need-enum-told-2
-enum-told-2 c = search rules
-
-refused-year-requires-2 : tie.Need-refused-year-requires-2
-refused-year-requires-2 c κs = search rules
-
-returns-3 : tie.Need-returns-3
-returns-3 c =
-    let n = c.before.before.before.before in
-    on n (given_biased _ (rw c.before.before.jdn.given.1 at n.day_number.ensures) (rw (to_z-of_z (sfits_of c.before.known-told.given.0.1)) at c.on_day.ensures))
-
-returns-4 : tie.Need-returns-4
-returns-4 c = absurd (given_none c.before.enum_told.given.1 c.before.before.before.day_number.ensures)
-
-returns-5 : tie.Need-returns-5
-returns-5 c =
     let n = c.before.before.before in
-    rw (c.refused-year2.ensures, to_z-of_z (start n).ranges.year) (on n (given_far _ (rw c.before.enum-told2.given.1 at n.day_number.ensures)))
+    let y = n.before in
+    let a = y.before in
+    off_row a.args.calendar a.requires y.raised.result (raised_year_biased y.raised.type-inv) (year_is y) (rw c.before.refusal.given.1 at n.ordinal-place.ensures)
 
 pub on_ordinal_spec : {M : Type 1} → statement M
 on_ordinal_spec =
     tie.close
     (tie.spec
     raised-requires
-    year-span-requires
-    add-past
-    refused-count-requires
+    ordinal-place-requires
+    enum-known-p
+    given-requires
+    enum-known-refusal
     returns
-    refused-count-requires-2
-    returns-2
-    sub-day-number
-    day-number-requires
-    enum-known-jdn
-    on-day-requires
-    enum_told
-    refused-year-requires
-    enum-told-2
-    refused-year-requires-2
-    returns-3
-    returns-4
-    returns-5)
+    returns-2)

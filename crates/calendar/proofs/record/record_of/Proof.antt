@@ -15,7 +15,7 @@ plain-record-requires c κs = search rules
 returns : tie.Need-returns
 returns c =
     let p = c.before.before.before.requires in
-    rw (c.plain-record.ensures, to_z-of_z c.before.before.before.ranges.jdn) (record_plain c.before.before.before.args.calendar p.0 c.before.before.before.args.s p.1 p.2 (style_old c.before.before.before.args.calendar p.0 (spot_room c.before.before.before.args.calendar p.0 c.before.before.before.args.s p.1 p.2) (omega (arith, c.before.if1.true))) (λ h. omega (arith, c.before.if1.true)))
+    rw (c.plain-record.ensures, to_z-of_z c.before.before.before.ranges.jdn) (record_plain c.before.before.before.args.calendar p.0 c.before.before.before.args.s p.1 p.2 (style_old c.before.before.before.args.calendar p.0 (spot_room c.before.before.before.args.calendar p.0 c.before.before.before.args.s p.1 p.2) c.before.if1.true) (λ h. omega (arith, c.before.if1.true)))
 
 cast-if2 : tie.Need-overflow-cast-if2
 cast-if2 c = search rules
@@ -32,12 +32,12 @@ plain-record-requires-2 c κs = search rules
 returns-2 : tie.Need-returns-2
 returns-2 c =
     let a = c.before.before.before.before.before.before in
-    rw (c.plain-record2.ensures, to_z-of_z a.ranges.jdn) (record_plain a.args.calendar a.requires.0 a.args.s a.requires.1 a.requires.2 (style_new a.args.calendar a.requires.0 (spot_room a.args.calendar a.requires.0 a.args.s a.requires.1 a.requires.2) (omega (arith, c.before.before.before.before.if1.false))) (λ h. omega (arith, c.before.if2.true, labelled_room a.requires.1)))
+    rw (c.plain-record2.ensures, to_z-of_z a.ranges.jdn) (record_plain a.args.calendar a.requires.0 a.args.s a.requires.1 a.requires.2 (style_new a.args.calendar a.requires.0 (spot_room a.args.calendar a.requires.0 a.args.s a.requires.1 a.requires.2) c.before.before.before.before.if1.false) (λ h. omega (arith, c.before.if2.true, labelled_room a.requires.1)))
 
 reform-record-requires : tie.Need-reform-record-requires
 reform-record-requires c κs =
     let a = c.before.before.before.before.before in
-    (a.requires.0, a.requires.1, a.requires.2 ∙ sym (to_z-of_z a.ranges.jdn), omega (arith, c.before.before.before.if1.false))
+    (a.requires.0, a.requires.1, a.requires.2 ∙ sym (to_z-of_z a.ranges.jdn), c.before.before.before.if1.false)
 
 returns-3 : tie.Need-returns-3
 returns-3 c = rw (to_z-of_z c.before.before.before.before.before.before.ranges.jdn) at c.reform_record.ensures

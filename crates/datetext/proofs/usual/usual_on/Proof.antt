@@ -43,8 +43,8 @@ returns-2 c =
     let a = k.before.before.before.before.before in
     let m = k.before.month.given.0.0 in
     let n = k.before.month.given.0.1.0 in
-    ap (λ (y : ℤ). Text.Ymd y m c.before.usual_day.result n) (to_z-of_z a.ranges.year)
-    ∙ sym ((c.before.usual_day.ensures c.if1.true).read a.args.year m)
+    ap (λ (y : ℤ). Text.Ymd y m c.before.usual-day.result n) (to_z-of_z a.ranges.year)
+    ∙ sym ((c.before.usual-day.ensures c.if1.true).read a.args.year m)
     ∙ sym ((month k).read a.args.year)
 
 returns-3 : tie.Need-returns-3

@@ -87,7 +87,7 @@ module _ {M : Type 1} {𝓤 : Ura M} (𝓛 : Logic 𝓤) (mem : Memory → SProp
   Post = (walk_of 𝓛 next.ended stayed (next.clauses 𝓛 mem run)).post (((κ, tt), (q, tt), tt, (d, tt), (mach ∷ [], tt)), tt)
 
   abbrev Own : Fml
-  Own = (B (κ, tt)).own_val d (mach ∷ [])
+  Own = (B (κ, tt)).own d (mach ∷ [])
 
   -- the struct's type and laws, and d's fields' values
   abbrev D : Declared
