@@ -1,6 +1,8 @@
 // Runs one call of the library many times over days that are prepared in memory, and writes a sum over all fields of the answers, so that
 // what the call costs can be counted. Standard input is a list of orders of eight bytes: the call (`n` none, `j` at_jdn, `y` at_ymd,
 // `p` parse_date, `s` succ), the calendar (`J`, `G`, or `R` for the one of 1582), the number of rounds in five digits, and a line end.
+#![tactic(auto)]
+
 ghost use Rattle.std.specs.Prelude.{◌≡◌, ◌+◌, ◌<◌, ◌≤◌, length};
 
 use calendar::{Calendar, Date, Dated, Style};

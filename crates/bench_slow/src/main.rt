@@ -3,6 +3,8 @@
 // `o` at_ordinal_date), the calendar (`J`, `G`, `R` for the one of 1582, `M` for a made-up one), year, month, day and the number of rounds.
 // at_ordinal_date has its ordinal in the place of the day, and at_jdn its day number in the place of the year.
 // Each call stands in two places, before its loop and in it, so that the compiler leaves it a call.
+#![tactic(auto)]
+
 use calendar::{Calendar, Date, Dated, Style};
 use libc::{STDIN_FILENO, STDOUT_FILENO};
 use numbertext::Number;
@@ -39,7 +41,7 @@ fn added(sum: u64, answer: Dated) -> u64 {
 
 // ---- The question, which stands 256 times in memory: raised year, month and day at 4 i
 
-#[derive(Drop)]
+#[derive(Clone, Copy)]
 struct Question {
     year: i32,
     month: u32,
@@ -148,7 +150,7 @@ fn run(call: u8, calendar: Calendar, words: &[u32; 1024], calls: u64) -> u64 {
 }
 
 // A number of the order, and the place of the next.
-#[derive(Drop)]
+#[derive(Clone, Copy)]
 struct Part {
     value: u32,
     next: usize,

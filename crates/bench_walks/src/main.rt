@@ -2,6 +2,8 @@
 // seven bytes: the walker (`l` later, `e` earlier, `a` and_later), the calendar (`J`, `G`, or `R` for the one of 1582), and the number of
 // rounds in five digits. In each round a walker is made on day 2298000, which is some three years before the switch of 1582, and gives 4096
 // dates.
+#![tactic(auto)]
+
 use calendar::{Calendar, Date, Dated, Style};
 use libc::{STDIN_FILENO, STDOUT_FILENO};
 use numbertext::Number;

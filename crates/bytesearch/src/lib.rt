@@ -1,6 +1,8 @@
 // The search for a byte.
 // For the crates above.
 
+#![tactic(auto)]
+
 ghost use Rattle.std.specs.Prelude.{◌+◌, ◌<◌, ◌≤◌, length, ◌≡◌};
 ghost use Rattle.bytesearch.specs.Promise.{UpTo};
 ghost use Rattle.bytesearch.specs.Laws.{InFour, Eights, Going, Sixteens};

@@ -2,6 +2,8 @@
 // Every call answers or refuses, for all numbers and records, made-up ones included.
 // For users: all but `switch_of`, `next_in_month` and `refusal_of`, which are for the crates above.
 
+#![tactic(auto)]
+
 ghost use Rattle.std.specs.Prelude.{◌≡◌, pos, not, ◌-◌, ◌≤◌};
 ghost use Rattle.std.proofs.Math.IntN.{suc_ℤ, pred_ℤ};
 ghost use Rattle.ways.specs.Promise.{toward};
@@ -23,7 +25,7 @@ use whole::{lowered, raised, widened};
 mod record;
 
 // A calendar that is reforming at a day has Julian dates below it, and Gregorian ones from it on.
-#[derive(Drop)]
+#[derive(Clone, Copy)]
 pub enum Calendar {
     Julian,
     Gregorian,
@@ -32,7 +34,7 @@ pub enum Calendar {
 
 // The calendar by which a day is labelled: printed lists call the Julian one old style, the Gregorian one new style. Swedish is
 // that of the days 1700-03-01 to 1712-02-30 of Sweden.
-#[derive(Drop)]
+#[derive(Clone, Copy)]
 pub enum Style {
     Julian,
     Gregorian,
@@ -40,7 +42,7 @@ pub enum Style {
 }
 
 // The record of a day in a calendar.
-#[derive(Drop)]
+#[derive(Clone, Copy)]
 pub struct Date {
     pub calendar: Calendar,
     pub style: Style,
@@ -54,40 +56,40 @@ pub struct Date {
 
 // ---- Answers: each is what was asked for, or the refusal
 
-#[derive(Drop)]
+#[derive(Clone, Copy)]
 pub enum Chosen {
     Calendar(Calendar),
     Refused(Refusal),
 }
 
-#[derive(Drop)]
+#[derive(Clone, Copy)]
 pub enum Dated {
     Date(Date),
     Refused(Refusal),
 }
 
 // A number that counts from 0 or 1.
-#[derive(Drop)]
+#[derive(Clone, Copy)]
 pub enum Counted {
     Number(u32),
     Refused(Refusal),
 }
 
-#[derive(Drop)]
+#[derive(Clone, Copy)]
 pub enum Told {
     Is(bool),
     Refused(Refusal),
 }
 
 // What a calendar has that reforms, and another has not.
-#[derive(Drop)]
+#[derive(Clone, Copy)]
 pub enum ReformDay {
     Day(i32),
     Never,
     Refused(Refusal),
 }
 
-#[derive(Drop)]
+#[derive(Clone, Copy)]
 pub enum ReformDate {
     Date(Date),
     Never,
@@ -95,7 +97,7 @@ pub enum ReformDate {
 }
 
 // The next date of a month, or nothing yet.
-#[derive(Drop)]
+#[derive(Clone, Copy)]
 pub enum Near {
     Date(Date),
     Other,
@@ -105,7 +107,7 @@ pub enum Near {
 
 // A calendar is Julian below a biased day and Gregorian from it on. The Julian one switches after every day that is looked at, the Gregorian
 // one before.
-#[derive(Drop)]
+#[derive(Clone, Copy)]
 pub enum Switch {
     At(u64),
     MadeUp,

@@ -131,7 +131,7 @@ fn julian_month(year: u32, month: u32) -> u64
 // that are refused there, are found out of line, by `turning`.
 
 // The biased day past it, its label, its places in its year and its month, and its style.
-#[derive(Drop)]
+#[derive(Clone, Copy)]
 struct DayInYear {
     past: u64,
     ordinal: u32,
@@ -141,7 +141,7 @@ struct DayInYear {
     style: Style,
 }
 
-#[derive(Drop)]
+#[derive(Clone, Copy)]
 enum Placed {
     At(DayInYear),
     Refused(Refusal),
@@ -184,7 +184,7 @@ fn plain_place(style: Style, s: Spot) -> DayInYear
     }
 }
 
-#[derive(Drop)]
+#[derive(Clone, Copy)]
 enum Read {
     At(Spot),
     Nothing,
@@ -234,7 +234,7 @@ fn label_place(switch: u64, year: u32, month: u32, day: u32) -> Placed
 }
 
 // What is answered in line, or that the label is looked for from the switch on, in its year.
-#[derive(Drop)]
+#[derive(Clone, Copy)]
 enum Early {
     At(DayInYear),
     Refused(Refusal),

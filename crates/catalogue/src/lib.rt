@@ -2,6 +2,8 @@
 // of the memory and any count of lines.
 // For users: all that is public.
 
+#![tactic(auto)]
+
 ghost use Rattle.std.specs.Prelude.{◌≤◌, ◌<◌, ◌^◌, ◌≡◌, pos, length, take};
 ghost use Rattle.refusals.specs.Promise.{refusal};
 ghost use Rattle.nametable.specs.Limits.{most_lines, most_name};
@@ -15,7 +17,7 @@ use refusals::{Refusal, refusal_at};
 use switches::reformation::Judgement;
 
 // How many lines are held now, or why the line is refused. The place of a refusal is the number of the line, from 1.
-#[derive(Drop)]
+#[derive(Clone, Copy)]
 pub enum Added {
     Lines(usize),
     Refused(Refusal),

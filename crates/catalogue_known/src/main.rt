@@ -3,6 +3,8 @@
 // line with the count of its lines, or `!` and the numbers of its refusal; then how many of the ways to cut it gave the same answer and left the same
 // memory. A name, looked up in the catalogue before it, gives a line with its calendar, or `!` and the numbers of the refusal.
 
+#![tactic(auto)]
+
 ghost use Rattle.std.specs.Prelude.{◌≡◌, ◌+◌, ◌<◌, ◌≤◌, length};
 
 use calendar::{Calendar, Chosen};
@@ -173,7 +175,7 @@ fn answer_piece(kind: u8, bytes: &[u8], names: &mut Names, links: &mut Links) {
 }
 
 // The bytes of a piece, and where the next one begins.
-#[derive(Drop)]
+#[derive(Clone, Copy)]
 struct Piece {
     from: usize,
     to: usize,

@@ -2,6 +2,8 @@
 // refused or could not be read. It decides nothing.
 // For programs.
 
+#![tactic(auto)]
+
 use catalogue::{Links, Names};
 use cataloguerun::CatalogueRun;
 pub use cataloguerun::LONGEST_READ;

@@ -2,6 +2,8 @@
 // an unfinished line. Each call answers for any contents of it.
 // For users: all that is public.
 
+#![tactic(auto)]
+
 ghost use Rattle.std.specs.Prelude.{◌<◌, ◌≤◌, length, take};
 ghost use Rattle.nametable.specs.Promise.{memory};
 ghost use Rattle.catalogue.specs.Promise.{Adds};
@@ -12,7 +14,7 @@ use refusals::{Refusal, refusal_at};
 pub use textlines::LONGEST_READ;
 
 // How far a block is read, how many lines are held, and how many bytes of an unfinished line.
-#[derive(Drop)]
+#[derive(Clone, Copy)]
 pub struct Progress {
     pub at: usize,
     pub lines: usize,
@@ -20,7 +22,7 @@ pub struct Progress {
 }
 
 // Where reading is, or why the catalogue is refused: then nothing more is to be read.
-#[derive(Drop)]
+#[derive(Clone, Copy)]
 pub enum BlockRead {
     Going(Progress),
     Refused(Refusal),

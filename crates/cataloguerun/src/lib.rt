@@ -2,6 +2,8 @@
 // cannot be read, is told on standard error. A program around it decides nothing.
 // For programs: `start`, `reads_on`, `go_on` and `complain`. For the crates above: `CatalogueRun`.
 
+#![tactic(auto)]
+
 ghost use Rattle.std.specs.Prelude.{◌≡◌, false, ◌+◌, ◌≤◌, length};
 ghost use Rattle.filter.specs.Promise.{arrived_of, block_size};
 ghost use Rattle.nametable.specs.Promise.{memory};
@@ -19,7 +21,7 @@ use writer::buffer::Copied;
 use writer::{Written, buffer};
 
 // How far it is read, or what it came to.
-#[derive(Drop)]
+#[derive(Clone, Copy)]
 pub enum CatalogueRun {
     // So many lines are held, and so many bytes of an unfinished one.
     Reading(usize, usize),

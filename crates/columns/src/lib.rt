@@ -1,6 +1,8 @@
 // The columns of the listing: the numbers that stand in the line of an answer, and the header over them.
 // For the crates above; `listing` passes `put_header` on to users.
 
+#![tactic(auto)]
+
 ghost use Rattle.std.specs.Prelude.{◌≡◌};
 ghost use Rattle.columns.specs.Columns.{style_letters_value, numbers_of_value, line_of};
 ghost use Rattle.columns.specs.Promise.{PutsHeader};

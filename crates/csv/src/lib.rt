@@ -1,6 +1,8 @@
 // A record of comma-separated text, as RFC 4180 has it: the reading inside quotes and the reading outside quotes hand over to each other until the
 // record ends, a byte does not fit, or the bytes run out. A record of two fields becomes a line: both fields unquoted, with a tab between them.
 // For the crates above: all that is public.
+#![tactic(auto)]
+
 mod unquote;
 
 ghost use Rattle.std.specs.Prelude.{◌≡◌, ◌≤◌, ◌<◌, min, length, drop};
@@ -14,7 +16,7 @@ use unquote::{put_line, put_usual_line};
 pub const LONGEST_RECORD: usize = 512;
 
 // What stands at the front of some bytes.
-#[derive(Drop)]
+#[derive(Clone, Copy)]
 pub enum Scan {
     // A record of two fields: the bytes of its line, and the offset after its line end.
     Entry(usize, usize),
@@ -27,7 +29,7 @@ pub enum Scan {
 }
 
 // The same, with the comma between the two fields and the offset after them.
-#[derive(Drop)]
+#[derive(Clone, Copy)]
 enum Found {
     Pair(usize, usize, usize),
     Other(usize),
@@ -122,7 +124,7 @@ fn field_end(s: &[u8], at: usize, quoted: bool) -> usize
 
 // ---- what comes next outside quotes
 
-#[derive(Drop)]
+#[derive(Clone, Copy)]
 enum Next {
     // The record ends here: the offset after its line end.
     Ends(usize),
@@ -276,7 +278,7 @@ fn inside_quotes(
 
 // ---- the usual record: two fields, each of text, or of text in quotes
 
-#[derive(Drop)]
+#[derive(Clone, Copy)]
 enum Usual {
     // The comma between the fields, the offset after them, and that after the line end.
     Pair(usize, usize, usize),

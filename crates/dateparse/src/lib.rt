@@ -2,6 +2,8 @@
 // number's place.
 // For users.
 
+#![tactic(auto)]
+
 ghost use Rattle.std.specs.Prelude.{◌≡◌};
 ghost use Rattle.dateparse.specs.Promise.{placed_at, ParseDate, WriteDate};
 

@@ -1,6 +1,8 @@
 // The text of a date: YEAR-ORDINAL or YEAR-MONTH-DAY, read. Each call answers for any bytes. `usual` reads the texts that most are, and any text by what
 // is here.
 // For users: `read_date`, for texts without a calendar.
+#![tactic(auto)]
+
 mod usual;
 
 ghost use Rattle.std.specs.Prelude.{◌≡◌};
@@ -13,7 +15,7 @@ use refusals::Refusal;
 pub use usual::read_date;
 
 // What a text writes, or its first fault. The place is that of the number which a later refusal may name, the ordinal or the day.
-#[derive(Drop)]
+#[derive(Clone, Copy)]
 pub enum Text {
     Ordinal {
         year: i32,

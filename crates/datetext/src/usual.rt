@@ -10,7 +10,7 @@ ghost use Rattle.datetext.specs.Usual.{IfAt, Hundreds, YearRead, MonthRead, DayR
 use crate::Text;
 
 // A number that stands where it is looked for, and the place after it, and after the `-` that a year or a month has. `Other` says nothing of a text.
-#[derive(Drop)]
+#[derive(Clone, Copy)]
 enum Part {
     At(u32, usize),
     Other,

@@ -1,6 +1,8 @@
 // Digits in text: the run of digits at an offset of the bytes, and one or two of them. Each call answers for any bytes and any offset.
 // For the crates above.
 
+#![tactic(auto)]
+
 ghost use Rattle.std.specs.Prelude.{◌≡◌, drop};
 ghost use Rattle.digits.specs.Promise.{is_digit_value, digit_of, pair_of, run_of, ends_of};
 
@@ -15,7 +17,7 @@ fn is_digit(b: u64) -> bool
 
 // The digits at a place: none; or the number that they write and the place after them; or the place of the first digit at which they leave the range
 // of the field.
-#[derive(Drop)]
+#[derive(Clone, Copy)]
 pub enum Run {
     Empty,
     Value(u64, usize),

@@ -2,6 +2,8 @@
 // a catalogue in lent memory has it.
 // For users: `line_answer` and `LONGEST_ENTRY`. For the crates above: `parts_of`.
 
+#![tactic(auto)]
+
 ghost use Rattle.std.specs.Prelude.{◌≤◌, length, take, drop};
 ghost use Rattle.nametable.specs.Promise.{memory};
 ghost use Rattle.catalogue.specs.Promise.{NamesIn};
@@ -27,7 +29,7 @@ fn text_from(len: usize, tab: usize) -> usize
 }
 
 // Where the name of a line ends, and where its text begins.
-#[derive(Drop)]
+#[derive(Clone, Copy)]
 pub struct Parts {
     pub name_end: usize,
     pub text_from: usize,

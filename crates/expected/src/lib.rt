@@ -1,6 +1,8 @@
 // What could have stood at a place of a date text: which digits, a `-`, a `+`, the end. Each call answers for any bytes and any place.
 // For the crates above.
 
+#![tactic(auto)]
+
 ghost use Rattle.std.specs.Prelude.{◌≡◌, true, false, cond, ◌≤◌, ◌<◌, nat_abs, length, take};
 ghost use Rattle.expected.specs.Promise.{Expects};
 ghost use Rattle.expected.specs.Numbers.{digits_left_value};
@@ -11,7 +13,7 @@ use datetext::Text;
 use numbertext::SignedNumber;
 
 // The first so many of the digits `0` to `9`, and whether a `-`, a `+` and the end.
-#[derive(Drop)]
+#[derive(Clone, Copy)]
 pub struct Expected {
     pub digits: u32,
     pub dash: bool,

@@ -1,6 +1,8 @@
 // The explanation program: explains standard input on standard output, with the catalogue in the file that its first argument names. It decides nothing:
 // `cataloguefile` reads the catalogue, and `explainrun` says what is to be written, where, and whether to read on.
 
+#![tactic(auto)]
+
 ghost use Rattle.std.specs.Prelude.{◌≤◌, length};
 
 use catalogue::{LINK_COUNT, Links, NAME_BYTES, Names};

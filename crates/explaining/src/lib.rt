@@ -1,6 +1,8 @@
 // An answer explained: for a line of a register a paragraph of English, written into a lent buffer. A paragraph is a pattern that a name, a text and
 // numbers fill (`fill`), in the words of its reason (`sentences`).
 // For users: `explain_line`. For the crates above: `explain_too_long` and `LONGEST_PARAGRAPH`.
+#![tactic(auto)]
+
 mod choices;
 mod fill;
 mod picture;

@@ -2,6 +2,8 @@
 // around it decides nothing.
 // For programs.
 
+#![tactic(auto)]
+
 ghost use Rattle.filter.specs.Promise.{event_of};
 ghost use Rattle.writer.specs.Promise.{Writes};
 ghost use Rattle.nametable.specs.Promise.{memory};

@@ -1,9 +1,11 @@
 // The numbers of a date that follow from its day and its calendar, its style among them as a number, and whether two dates agree in all of them.
 // For the crates above.
 
+#![tactic(auto)]
+
 ghost use Rattle.fields.specs.Promise.{IsSame};
 
-#[derive(Drop)]
+#[derive(Clone, Copy)]
 pub struct Fields {
     pub year: i32,
     pub ordinal: u32,

@@ -2,6 +2,8 @@
 // loop decides nothing: it writes the front of its output, reads into its block, and calls.
 // For programs: `goes_on`, `output`, `room`, `front`, `State` and `BLOCK_SIZE`. For the crates above: all else.
 
+#![tactic(auto)]
+
 ghost use Rattle.std.specs.Prelude.{◌≡◌, take};
 ghost use Rattle.filter.specs.Promise.{goes_on_value, output_of, room_of, arrived_of, event_of, state_with_value, PutsMessage};
 
@@ -12,7 +14,7 @@ use writer::buffer::Copied;
 pub const BLOCK_SIZE: usize = 65536;
 
 // What comes next, once the output is written.
-#[derive(Drop)]
+#[derive(Clone, Copy)]
 pub enum Phase {
     // All of the block is used up: read the next one.
     Reading,
@@ -25,7 +27,7 @@ pub enum Phase {
     Ended,
 }
 
-#[derive(Drop)]
+#[derive(Clone, Copy)]
 pub struct State {
     pub phase: Phase,
     // How far the block is used up, and how many bytes were read into it.
@@ -38,7 +40,7 @@ pub struct State {
 }
 
 // What has happened since the last call.
-#[derive(Drop)]
+#[derive(Clone, Copy)]
 pub enum Event {
     // The bytes of the block from one offset up to another are there to work on.
     Block(usize, usize),

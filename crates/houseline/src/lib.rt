@@ -1,6 +1,8 @@
 // A line of a catalogue: a name, a tab and a whole number. Here is its form alone: whether it is such a line, where its name ends, and its number.
 // For the crates above: all that is public.
 
+#![tactic(auto)]
+
 ghost use Rattle.std.specs.Prelude.{◌≡◌, ◌+◌, ◌<◌, ◌≤◌, length, take, drop};
 ghost use Rattle.whole.specs.Whether.{Whether};
 ghost use Rattle.houseline.specs.Form.{Letter, Name};
@@ -12,7 +14,7 @@ use refusals::Refusal;
 use textlines::LONGEST_READ;
 
 // The length of the name and the number; or the number is outside 32 bits, with its refusal as a number in the line; or it is no such line.
-#[derive(Drop)]
+#[derive(Clone, Copy)]
 pub enum HouseLine {
     House(usize, i32),
     Outside(Refusal),

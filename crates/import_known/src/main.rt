@@ -3,6 +3,8 @@
 // number of its bytes, a newline, the bytes, a newline. Such a text is imported whole, and again cut in two at every byte. It gives its import, and
 // a line with `=` and how many of the ways to cut it came to the same.
 
+#![tactic(auto)]
+
 ghost use Rattle.std.specs.Prelude.{◌<◌, ◌≤◌, length};
 
 use catalogue::{LINK_COUNT, Links, NAME_BYTES, Names};
@@ -263,7 +265,7 @@ fn answer_text(
 // ---- The texts of the input
 
 // The bytes of a text, and where the next one begins.
-#[derive(Drop)]
+#[derive(Clone, Copy)]
 struct Piece {
     from: usize,
     to: usize,

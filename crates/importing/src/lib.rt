@@ -3,6 +3,8 @@
 // from its beginning.
 // For users: all that is public.
 
+#![tactic(auto)]
+
 ghost use Rattle.std.specs.Prelude.{◌≡◌, ◌+◌, ◌≤◌, ◌<◌, length, pos};
 ghost use Rattle.refusals.specs.Promise.{refusal};
 ghost use Rattle.nametable.specs.Promise.{memory};
@@ -64,7 +66,7 @@ fn put_fault(number: u32, place: usize, out: &mut [u8], used: usize) -> usize
 // ---- record after record
 
 // What came of a record: it is written, and the offset after it; or it goes on past the bytes that are there; or a refusal ended the import.
-#[derive(Drop)]
+#[derive(Clone, Copy)]
 enum Taken {
     Written(usize, usize),
     Cut,
@@ -108,7 +110,7 @@ fn take_record(
 }
 
 // Why a call stopped.
-#[derive(Drop)]
+#[derive(Clone, Copy)]
 pub enum Stopped {
     // The output has no room for another line.
     Full,
@@ -119,7 +121,7 @@ pub enum Stopped {
 }
 
 // How far the text is read, how far the output is written, and why no further.
-#[derive(Drop)]
+#[derive(Clone, Copy)]
 pub struct Progress {
     pub at: usize,
     pub used: usize,

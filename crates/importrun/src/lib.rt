@@ -2,6 +2,8 @@
 // a block cuts is moved to the front of the block, and the next read goes after it. A program around it decides nothing.
 // For programs.
 
+#![tactic(auto)]
+
 ghost use Rattle.std.specs.Prelude.{◌≡◌, ◌≤◌, min, length};
 ghost use Rattle.filter.specs.Promise.{event_of};
 ghost use Rattle.nametable.specs.Promise.{memory};
@@ -22,7 +24,7 @@ const UNWRITTEN: [u8; 73] =
 
 // What the program does next, and where in the file the block begins. `held` of the state is how many bytes at the front of the block are the beginning
 // of a record.
-#[derive(Drop)]
+#[derive(Clone, Copy)]
 pub struct ImportRun {
     pub state: State,
     pub offset: usize,

@@ -3,6 +3,8 @@
 // For users: the leap years, `jdn2julian`, `jdn2gregorian`, `julian2jdn`, `gregorian2jdn`, and the days that have names. For the crates above: the same on
 // biased days and years.
 
+#![tactic(auto)]
+
 ghost use Rattle.std.specs.Prelude.{◌≡◌, ◌<◌};
 ghost use Rattle.days.specs.DayByDay.{julian, gregorian, julian_leap, gregorian_leap, label_of};
 ghost use Rattle.days.specs.KnownDays.{NamedDays};
@@ -53,7 +55,7 @@ pub const UNIX_EPOCH_JDN: i32 = 2440588;
 
 pub const RATA_DIE_ZERO_JDN: i32 = 1721425;
 
-#[derive(Drop)]
+#[derive(Clone, Copy)]
 struct Named {
     reform1582: i32,
     unix_epoch: i32,
@@ -111,7 +113,7 @@ pub fn days_in_year(leap: bool) -> u32
 
 // ---- From a day number to its year and ordinal
 
-#[derive(Drop)]
+#[derive(Clone, Copy)]
 pub struct YearDay {
     pub year: i32,
     pub ordinal: u32,
@@ -138,7 +140,7 @@ pub fn jdn2gregorian(jdn: i32) -> YearDay
 }
 
 // The same of a raised day, with the raised year.
-#[derive(Drop)]
+#[derive(Clone, Copy)]
 pub struct RaisedYearDay {
     pub year: u32,
     pub ordinal: u32,
@@ -173,7 +175,7 @@ pub fn gregorian_place(day: u32) -> RaisedYearDay
 }
 
 // So many whole parts, and so many days of the next.
-#[derive(Drop)]
+#[derive(Clone, Copy)]
 struct Parts {
     whole: u64,
     rest: u64,
@@ -193,7 +195,7 @@ fn whole_parts(days: u64, length: u64) -> Parts
     }
 }
 
-#[derive(Drop)]
+#[derive(Clone, Copy)]
 struct LongPlace {
     year: u64,
     ordinal: u64,
@@ -215,7 +217,7 @@ fn decompose_julian(days: u64) -> LongPlace
 // ---- From a year and an ordinal to the day number
 
 // The number of the day; that there is no such day; or that 32 bits do not hold its number.
-#[derive(Drop)]
+#[derive(Clone, Copy)]
 pub enum DayNumber {
     Day(i32),
     Nothing,
@@ -283,7 +285,7 @@ pub fn day_number(day: u64) -> DayNumber
 
 // A biased day, with its raised year, and the ordinal, the month and the day of the month that it has in its own reckoning. In this order its
 // fields overlap those of a refusal so that an answer which is either costs no more than the spot alone.
-#[derive(Drop)]
+#[derive(Clone, Copy)]
 pub struct Spot {
     pub ordinal: u32,
     pub biased: u64,

@@ -2,6 +2,8 @@
 // is written for a line is the program's own.
 // For the crates above: all that is public.
 
+#![tactic(auto)]
+
 ghost use Rattle.std.specs.Prelude.{◌<◌, ◌≡◌, length};
 ghost use Rattle.filter.specs.Promise.{event_of};
 ghost use Rattle.linerun.specs.Promise.{state_at_value, with_output_value, last_of, EndsAt, TakesNext, Advances, NextTurn};
@@ -11,7 +13,7 @@ pub use textlines::LONGEST_READ;
 use textlines::add_to_line;
 
 // What a turn comes to.
-#[derive(Drop)]
+#[derive(Clone, Copy)]
 pub enum Turn {
     // A line has ended. So many bytes of it stand in the line buffer; or the number is above LONGEST_READ, and the line is too long. With the state the
     // program goes on, once the line is answered.

@@ -2,6 +2,8 @@
 // tells the offset after it, or says that it has no room and leaves the buffer as it was.
 // For the crates above.
 
+#![tactic(auto)]
+
 ghost use Rattle.std.specs.Prelude.{◌≡◌, [], ◌∷◌, false, ◌+◌, ◌<◌, ◌≤◌, length, pos};
 ghost use Rattle.whole.specs.Text.{tab};
 ghost use Rattle.writer.specs.Laws.{PutText};
@@ -20,7 +22,7 @@ pub const LONGEST_LINE: usize = 135;
 
 // The numbers in the line of a day, whatever they are: that they are those of one day is said where they come from. The style is two letters as one
 // number, the first and 256 times the second.
-#[derive(Drop)]
+#[derive(Clone, Copy)]
 pub struct LineNumbers {
     pub jdn: i64,
     pub year: i64,
@@ -32,7 +34,7 @@ pub struct LineNumbers {
 }
 
 // What stands in a line.
-#[derive(Drop)]
+#[derive(Clone, Copy)]
 pub enum Line {
     Numbers(LineNumbers),
     Refusal(Refusal),

@@ -2,6 +2,8 @@
 // it comes to, or its refusal. The catalogue that was read before is in lent memory. Input comes in blocks that end anywhere. What is left of a line
 // between two blocks is held: `held`.
 // For users: all that is public.
+#![tactic(auto)]
+
 mod held;
 
 ghost use Rattle.std.specs.Prelude.{◌+◌, ◌<◌, ◌≤◌, length};
@@ -41,7 +43,7 @@ pub fn put_refused(out: &mut [u8], at: usize, why: Refusal) -> Written
 }
 
 // How far a block is read, how many bytes of an unfinished line are held, and how far the output is written.
-#[derive(Drop)]
+#[derive(Clone, Copy)]
 pub struct Progress {
     pub at: usize,
     pub held: usize,

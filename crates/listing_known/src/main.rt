@@ -1,6 +1,8 @@
 // Lists its input whole and writes the listing; then lists it again as two blocks, cut at every byte, and tells in how many ways it was cut and
 // how many of the listings were the same. The catalogue is empty.
 
+#![tactic(auto)]
+
 ghost use Rattle.std.specs.Prelude.{◌≤◌, length};
 
 use catalogue::{LINK_COUNT, Links, NAME_BYTES, Names};

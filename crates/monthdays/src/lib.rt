@@ -1,19 +1,21 @@
 // The months of a year: from an ordinal to month and day, and back.
 // For the crates above.
 
+#![tactic(auto)]
+
 ghost use Rattle.std.specs.Prelude.{◌≡◌, true, false, ◌+◌, ◌≤◌, ◌<◌};
 ghost use Rattle.whole.specs.Whether.{Whether};
 ghost use Rattle.days.specs.DayByDay.{month_length, Month};
 ghost use Rattle.days.specs.ClosedNumbers.{days_before_value, to_thirty_value};
 ghost use Rattle.monthdays.specs.Promise.{MonthDayOf, OrdinalOf, MonthDayAt};
 
-#[derive(Drop)]
+#[derive(Clone, Copy)]
 pub enum MonthDay {
     At(u32, u32),
     Nothing,
 }
 
-#[derive(Drop)]
+#[derive(Clone, Copy)]
 pub enum DayOrdinal {
     At(u32),
     Nothing,
@@ -105,7 +107,7 @@ fn days_before(leap: bool, month: u32) -> u32
 }
 
 // Month and day so many days after 1 January; past the year's end, in months that would follow.
-#[derive(Drop)]
+#[derive(Clone, Copy)]
 pub struct MonthAndDay {
     pub month: u32,
     pub day: u32,

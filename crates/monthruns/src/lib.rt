@@ -1,6 +1,8 @@
 // The days that a month of a calendar has, as runs: none, one, or two with a gap inside. Days outside 32 bits count too.
 // For users.
 
+#![tactic(auto)]
+
 ghost use Rattle.std.specs.Prelude.{◌≡◌};
 ghost use Rattle.monthruns.specs.Promise.{RunsOf};
 ghost use Rattle.monthruns.specs.Natural.{Few, run_of, AllInside, RunsIn};
@@ -11,20 +13,20 @@ use refusals::Refusal;
 use switches::{MonthSpan, Spanned};
 
 // All days of the month from the first to the last.
-#[derive(Drop)]
+#[derive(Clone, Copy)]
 pub struct Run {
     pub first: u32,
     pub last: u32,
 }
 
-#[derive(Drop)]
+#[derive(Clone, Copy)]
 pub enum Runs {
     Nothing,
     One(Run),
     Two(Run, Run),
 }
 
-#[derive(Drop)]
+#[derive(Clone, Copy)]
 pub enum MonthDays {
     Are(Runs),
     Refused(Refusal),

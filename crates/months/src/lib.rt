@@ -2,6 +2,8 @@
 // The days of a month are consecutive: Julian days before the switch, and Gregorian days from the switch on.
 // For users: all but `span_of`, which is for the crates above.
 
+#![tactic(auto)]
+
 ghost use Rattle.std.specs.Prelude.{◌≡◌};
 ghost use Rattle.months.specs.Promise.{YearLengthOf, Len, FirstDayOf, LastDayOf, Contains, DayOrdinalOf, NthDay, NthDate};
 ghost use Rattle.months.specs.Natural.{Spans, Inside, day_in_value};

@@ -2,6 +2,8 @@
 // with how many there are. Each call answers for any contents of the memory.
 // For the crates above: all that is public.
 
+#![tactic(auto)]
+
 ghost use Rattle.std.specs.Prelude.{◌≡◌, ◌+◌, ◌*◌, ◌<◌, ◌≤◌, length};
 ghost use Rattle.whole.specs.Whether.{Whether};
 ghost use Rattle.nametable.specs.Limits.{most_lines, most_name, heads};
@@ -167,7 +169,7 @@ fn stands(name: &[u8], names: &Names, k: usize) -> bool
 
 // ---- finding and entering
 
-#[derive(Drop)]
+#[derive(Clone, Copy)]
 pub enum Found {
     Number(i32),
     Nowhere,

@@ -1,6 +1,8 @@
 // The calendars of the countries that `ncal.rs` of the crate lists, and calendars by name.
 // For users: all that is public but `look_up` and `Found`, which are for the crates above.
 
+#![tactic(auto)]
+
 ghost use Rattle.std.specs.Prelude.{◌≡◌};
 ghost use Rattle.ncal.specs.Table.{row, table};
 ghost use Rattle.ncal.specs.Promise.{FoundAs, NamesCalendar};
@@ -126,7 +128,7 @@ pub fn named(name: &[u8]) -> Chosen
 }
 
 // What a name is found to be among some names.
-#[derive(Drop)]
+#[derive(Clone, Copy)]
 pub enum Found {
     Calendar(Calendar),
     Nothing,

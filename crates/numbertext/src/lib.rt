@@ -2,6 +2,8 @@
 // Each call answers for any bytes and any offset.
 // For users: the answers of `Reader`. For the crates above: the reads at an offset.
 
+#![tactic(auto)]
+
 ghost use Rattle.std.specs.Prelude.{◌≡◌, drop};
 ghost use Rattle.numbertext.specs.Promise.{NumberAt, SignedAt, DashAt, EndAt};
 ghost use Rattle.numbertext.specs.Reading.{ended_at_value, signed_run_value, limit_of, way_out_value};
@@ -11,26 +13,26 @@ use refusals::{Refusal, byte_refusal, refusal_at};
 use whole::Narrowed;
 
 // What a read at a place answers: what stands there and the place after it, or why it is refused.
-#[derive(Drop)]
+#[derive(Clone, Copy)]
 pub enum Number {
     Value(u32, usize),
     Refused(Refusal),
 }
 
-#[derive(Drop)]
+#[derive(Clone, Copy)]
 pub enum SignedNumber {
     Value(i32, usize),
     Refused(Refusal),
 }
 
-#[derive(Drop)]
+#[derive(Clone, Copy)]
 pub enum Dash {
     Next(usize),
     Refused(Refusal),
 }
 
 // Whether the bytes end at a place.
-#[derive(Drop)]
+#[derive(Clone, Copy)]
 pub enum End {
     Reached,
     Refused(Refusal),

@@ -54,7 +54,7 @@ fn with_date(h: u64, date: Date) -> u64 {
 
 // ---- Every step-th day
 
-#[derive(Drop)]
+#[derive(Clone, Copy)]
 struct DaySum {
     hash: u64,
     given: u32,
@@ -155,7 +155,7 @@ pub fn places(calendar: Calendar, year: i32) -> u64 {
 
 // ---- Walkers
 
-#[derive(Drop)]
+#[derive(Clone, Copy)]
 struct Walking {
     walker: Walker,
     last: Date,

@@ -1,5 +1,7 @@
 // Answers queries about the calendar with the library: a query a line from standard input, an answer a line to standard output.
 // oracle/PROTOCOL.md has the queries and their answers. A query is known by its first two letters.
+#![tactic(auto)]
+
 mod buffer;
 mod digest;
 mod put;

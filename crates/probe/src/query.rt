@@ -3,21 +3,21 @@ use calendar::{Calendar, Chosen, Date, Dated, Refusal, Style};
 use numbertext::{Number, SignedNumber};
 
 // The calendar of a query and where the fields after it begin.
-#[derive(Drop)]
+#[derive(Clone, Copy)]
 pub enum Head {
     Calendar(Calendar, usize),
     Refused(Refusal),
 }
 
 // The date of a query and where the fields after it begin.
-#[derive(Drop)]
+#[derive(Clone, Copy)]
 pub struct Asked {
     pub answer: Dated,
     pub next: usize,
 }
 
 // A signed number and two unsigned ones: what most queries ask about.
-#[derive(Drop)]
+#[derive(Clone, Copy)]
 pub struct Numbers {
     pub first: i32,
     pub second: u32,

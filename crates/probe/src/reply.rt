@@ -2,7 +2,7 @@
 use calendar::{Calendar, Counted, Date, Dated, Refusal, Style, Told};
 
 // The longest answer has 43 fields. A field is a number, or by its kind something else.
-#[derive(Drop)]
+#[derive(Clone, Copy)]
 pub struct Reply {
     pub n: usize,
     pub values: [i64; 48],

@@ -1,6 +1,8 @@
 // A reader that holds the caller's bytes and how far it has read: thin functions over the reads at an offset of `numbertext`.
 // For users.
 
+#![tactic(auto)]
+
 ghost use Rattle.std.specs.Prelude.{◌≡◌};
 ghost use Rattle.numbertext.specs.Promise.{NumberAt, SignedAt, DashAt, EndAt};
 ghost use Rattle.reader.specs.Promise.{after_number_value, after_signed_value, after_dash_value, Moves};
@@ -35,7 +37,7 @@ fn after_dash(x: Dash, at: usize) -> usize
     }
 }
 
-#[derive(Drop)]
+#[derive(Clone, Copy)]
 pub struct Reader<'a> {
     pub src: &'a [u8],
     pub at: usize,

@@ -1,6 +1,8 @@
 // Why a date text is accepted or refused: the answer of `parse_date` with the facts that belong to it, from the calendar or from the grammar.
 // For users.
 
+#![tactic(auto)]
+
 ghost use Rattle.std.specs.Prelude.{◌≡◌, not, pos};
 ghost use Rattle.whole.specs.Promise.{is_negative_value};
 ghost use Rattle.refusals.specs.Promise.{refusal};
@@ -19,7 +21,7 @@ use monthruns::{MonthDays, Runs};
 use numbertext::SignedNumber;
 
 // One case for each reason. A refusal has the number, place and value that `parse_date` gives.
-#[derive(Drop)]
+#[derive(Clone, Copy)]
 pub enum Reason {
     // The style of the date is that of the rule that applied; whether its year is leap under that rule.
     Accepted {

@@ -1,11 +1,13 @@
 // `Refusal`: what every refused call answers.
 // For users: `Refusal`. For the crates above: the functions that make one.
 
+#![tactic(auto)]
+
 ghost use Rattle.std.specs.Prelude.{◌≡◌, pos};
 ghost use Rattle.refusals.specs.Promise.{refusal};
 
 // Its number, the place in a text that it is about, and the value that was at fault.
-#[derive(Drop)]
+#[derive(Clone, Copy)]
 pub struct Refusal {
     pub number: u32,
     pub place: usize,

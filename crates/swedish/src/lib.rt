@@ -1,6 +1,8 @@
 // The Swedish calendar, with days and years as biased natural numbers: where a month and a year begin and end, which day bears a label, and the
 // label of a day. For the crates above.
 
+#![tactic(auto)]
+
 ghost use Rattle.std.specs.Prelude.{◌≡◌, ◌<◌};
 ghost use Rattle.days.specs.BiasedDays.{day};
 ghost use Rattle.days.specs.DayByDay.{Month, Swedish, labels, julian, label_of};

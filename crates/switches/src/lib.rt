@@ -1,6 +1,8 @@
 // Calendars that switch from Julian to Gregorian dates on some day, with days and years as biased natural numbers: which day bears a label, and where
 // a year or a month begins and ends. A calendar of one reckoning is one that switches after every day in question, or before all of them.
 // For the crates above.
+#![tactic(auto)]
+
 pub mod reformation;
 
 ghost use Rattle.std.specs.Prelude.{◌≡◌, ◌<◌};
@@ -30,7 +32,7 @@ pub fn first_day(switch: u64, julian: u64, gregorian: u64) -> u64
 }
 
 // The first day of a raised year, and the first day past it. They are one day where the year has no day.
-#[derive(Drop)]
+#[derive(Clone, Copy)]
 pub struct Span {
     pub first: u64,
     pub past: u64,
@@ -51,7 +53,7 @@ pub fn year_span(switch: u64, year: u32) -> Span
 
 // A year in the reckoning in which it begins: its first day, whether it is leap, and whether it is wholly in that reckoning: 366 days from the
 // first on, and the day after them, are before the switch, or the first one is not.
-#[derive(Drop)]
+#[derive(Clone, Copy)]
 pub struct PlainYear {
     pub first: u64,
     pub leap: bool,
@@ -81,7 +83,7 @@ pub fn year_in(switch: u64, year: u32) -> PlainYear
 
 // A month of a calendar that switches on day `switch`: its first day, the first day past it, and its first day in the Gregorian reckoning,
 // from which its Gregorian days count. The first two are one day where the month has no day.
-#[derive(Drop)]
+#[derive(Clone, Copy)]
 pub struct MonthSpan {
     pub switch: u64,
     pub first: u64,
@@ -89,7 +91,7 @@ pub struct MonthSpan {
     pub gregorian: u64,
 }
 
-#[derive(Drop)]
+#[derive(Clone, Copy)]
 pub enum Spanned {
     Month(MonthSpan),
     Refused(Refusal),
@@ -128,7 +130,7 @@ pub fn month_span(switch: u64, year: u32, month: u32) -> Spanned
 }
 
 // A month in one reckoning.
-#[derive(Drop)]
+#[derive(Clone, Copy)]
 struct PlainMonth {
     first: u64,
     days: u32,
@@ -154,7 +156,7 @@ fn month_in(leap: bool, start: u64, month: u32) -> PlainMonth
 
 // ---- The day of a label
 
-#[derive(Drop)]
+#[derive(Clone, Copy)]
 pub enum Found {
     At(Spot),
     Refused(Refusal),
@@ -174,7 +176,7 @@ pub fn find(switch: u64, year: u32, month: u32, day: u32) -> Found
 
 // The day of a label in the Julian reckoning, where that is before the switch; or that this reckoning does not have it; or that it is to be looked
 // for from the switch on. A year that begins from the switch on has no Julian day before it.
-#[derive(Drop)]
+#[derive(Clone, Copy)]
 enum Below {
     At(Spot),
     Nothing,
@@ -241,7 +243,7 @@ pub fn non_gregorian_refusal(switch: u64, year: u32, month: u32, day: u32) -> u3
     }
 }
 
-#[derive(Drop)]
+#[derive(Clone, Copy)]
 enum Read {
     At(Spot),
     Nothing,

@@ -14,7 +14,7 @@ const FIRST_REFORMATION: u64 = 784_368_640_634;
 const LAST_REFORMATION: u64 = 786_514_249_530;
 
 // A day of reformation: accepted, with the number that it is biased as, or refused, with the number of the refusal.
-#[derive(Drop)]
+#[derive(Clone, Copy)]
 pub enum Judgement {
     Accepted(u64),
     Refused(u32),

@@ -2,6 +2,8 @@
 // block is cut into lines is said in `specs`, and done by the crates that read: a search that two of them called would not go in line.
 // For the crates above.
 
+#![tactic(auto)]
+
 ghost use Rattle.textlines.specs.Promise.{AddsToLine};
 
 use writer::buffer;

@@ -1,5 +1,7 @@
 // Unix time: from seconds since 1970 to a day, a date and the seconds into that day, and from a day to the seconds at its start.
 // For users: `unix2jdn`, `jdn2unix`, `at_unix_time`. For the crates above: `seconds`.
+#![tactic(auto)]
+
 pub mod seconds;
 
 ghost use Rattle.unixtime.specs.Promise.{Unix2Jdn, AtUnixTime};
@@ -11,14 +13,14 @@ use seconds::{DaySecond, day_second};
 // ---- Answers: each is what was asked for, or the refusal
 
 // A day number, and the seconds into that day.
-#[derive(Drop)]
+#[derive(Clone, Copy)]
 pub enum DayTime {
     At(i32, u32),
     Refused(Refusal),
 }
 
 // A date, and the seconds into its day.
-#[derive(Drop)]
+#[derive(Clone, Copy)]
 pub enum Timed {
     At(Date, u32),
     Refused(Refusal),

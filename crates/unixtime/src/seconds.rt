@@ -7,7 +7,7 @@ ghost use Rattle.unixtime.specs.Promise.{DaySecondOf};
 use whole::{lowered, lowered64, raised, raised64};
 
 // The number of a day, and the seconds into that day; or that 32 bits do not hold the number.
-#[derive(Drop)]
+#[derive(Clone, Copy)]
 pub enum DaySecond {
     At(i32, u32),
     Outside32,

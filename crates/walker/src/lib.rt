@@ -2,6 +2,8 @@
 // step leaves it as it was.
 // For users.
 
+#![tactic(auto)]
+
 ghost use Rattle.std.specs.Prelude.{◌≡◌};
 ghost use Rattle.calendar.specs.Calendars.{IsRecord, Genuine};
 ghost use Rattle.ways.specs.declared.Kind.TheVariants as Kind';
@@ -12,7 +14,7 @@ use calendar::{Date, Dated, Near, Refusal, refusal_of};
 pub use ways::Kind;
 use ways::{Step, ended_when_made};
 
-#[derive(Drop)]
+#[derive(Clone, Copy)]
 pub struct Walker {
     pub kind: Kind,
     pub date: Date,
@@ -21,14 +23,14 @@ pub struct Walker {
 
 // ---- Answers
 
-#[derive(Drop)]
+#[derive(Clone, Copy)]
 pub enum Walked {
     Walker(Walker),
     Refused(Refusal),
 }
 
 // What a step gives, and the walker after it.
-#[derive(Drop)]
+#[derive(Clone, Copy)]
 pub struct Moved {
     pub answer: Dated,
     pub walker: Walker,

@@ -2,6 +2,8 @@
 // walker has ended.
 // For users: `Kind`, the kind of a walker. For the crates above: all else.
 
+#![tactic(auto)]
+
 ghost use Rattle.std.specs.Prelude.{◌≡◌};
 ghost use Rattle.days.specs.DayByDay.{Is32Bit};
 ghost use Rattle.ways.specs.Promise.{goes_later_value, toward, IsNeighbour, gives_held_value, gives, EndedAt, IsStaying, NextStep};
@@ -10,7 +12,7 @@ use whole::{lowered, raised};
 
 // Where a walker goes, and whether it gives the date first that it was made from. One that does holds the date to give next; one that
 // does not holds the date that it gave last.
-#[derive(Drop)]
+#[derive(Clone, Copy)]
 pub enum Kind {
     Later,
     Earlier,
@@ -20,7 +22,7 @@ pub enum Kind {
 
 // What a step does: no walker on this day has this flag; no day is left to give; or the day that is given, the day that is held after it,
 // and whether the walker is then ended.
-#[derive(Drop)]
+#[derive(Clone, Copy)]
 pub enum Step {
     MadeUp,
     Ended,
@@ -74,7 +76,7 @@ fn ahead(kind: Kind, jdn: i32) -> i32
 }
 
 // The day next to a day, or that 32 bits have none there.
-#[derive(Drop)]
+#[derive(Clone, Copy)]
 pub enum Neighbour {
     Day(i32),
     Nowhere,

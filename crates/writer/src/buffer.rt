@@ -28,7 +28,7 @@ fn put_bytes(out: &mut [u8], at: usize, text: &[u8]) -> usize
 }
 
 // Whether a text had room.
-#[derive(Drop)]
+#[derive(Clone, Copy)]
 pub enum Copied {
     To(usize),
     NoRoom,

@@ -1,5 +1,7 @@
 // Numbers and year-month-day texts, written into a buffer that is lent. Each call answers for any buffer and any offset.
 // For users: `write_ymd`, `put_number`, `put_whole`, and `Written`. For the crates above: all else.
+#![tactic(auto)]
+
 pub mod buffer;
 pub mod decimals;
 
@@ -10,7 +12,7 @@ ghost use Rattle.writer.specs.Laws.{whole_width};
 
 use refusals::Refusal;
 
-#[derive(Drop)]
+#[derive(Clone, Copy)]
 pub enum Written {
     Done(usize),
     Refused(Refusal),
