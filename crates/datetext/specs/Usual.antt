@@ -11,7 +11,7 @@ use Rattle.digits.specs.Promise.{pair_of}
 use Rattle.digits.specs.Runs.{pick_yes, both, front_end}
 use Rattle.digits.specs.Few.{DigitIs, PairIs, pair_seen, digit_front, pair_front, dash_front}
 use Rattle.numbertext.specs.Reading.{the_number, the_signed}
-use Rattle.numbertext.specs.Places.{dash_yes, end_reached, number_of, signed_of}
+use Rattle.numbertext.specs.Places.{dash_yes, end_reached, number_of, signed_of_lem}
 use Rattle.numbertext.specs.declared.Number.{Number}
 use Rattle.numbertext.specs.declared.SignedNumber.{SignedNumber}
 use Rattle.datetext.specs.Reading.{is_month_value, to_ymd, after_day, after_month_value, after_second, after_dash_value, after_year, read_text}
@@ -59,13 +59,13 @@ module _ (s : List ℕ) (k : ℕ) (h : k < length s) (d : get_or s k 0 ≡ dash)
 four_digits : (s : List ℕ) {high low : ℕ} → 4 < length s → get_or s 4 0 ≡ dash → PairIs s 0 high → PairIs s 2 low → YearRead s (high * 100 + low) 5
 four_digits s h d a b =
     year_by s 4 h d (omega (arith, a.is, b.is, a.tens.high, a.ones.high, b.tens.high, b.ones.high))
-    (signed_of s _ (omega arith) a.tens (pair_front a (pair_front b (dash_front s 4 h d))) (omega arith) (omega (arith, a.is, b.is)) refl
+    (signed_of_lem s _ (omega arith) a.tens (pair_front a (pair_front b (dash_front s 4 h d))) (omega arith) (omega (arith, a.is, b.is)) refl
     (omega (arith, a.is, b.is, a.tens.high, a.ones.high, b.tens.high, b.ones.high)))
 
 three_digits : (s : List ℕ) {high low : ℕ} → 3 < length s → get_or s 3 0 ≡ dash → DigitIs s 0 high → PairIs s 1 low → YearRead s (high * 100 + low) 4
 three_digits s h d a b =
     year_by s 3 h d (omega (arith, a.is, b.is, a.digit.high, b.tens.high, b.ones.high))
-    (signed_of s _ (omega arith) a.digit (digit_front a (pair_front b (dash_front s 3 h d))) (omega arith) (omega (arith, a.is, b.is)) refl
+    (signed_of_lem s _ (omega arith) a.digit (digit_front a (pair_front b (dash_front s 3 h d))) (omega arith) (omega (arith, a.is, b.is)) refl
     (omega (arith, a.is, b.is, a.digit.high, b.tens.high, b.ones.high)))
 
 -- the digits before `at` write n, the hundreds of a year whose dash stands two places on; two digits need not be some

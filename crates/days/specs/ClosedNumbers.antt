@@ -10,7 +10,7 @@ use Rattle.days.specs.ClosedYear.{year_length, DayOfMonth, year_most}
 use Rattle.days.specs.ClosedMonths.{twelve, Before, before_first, before_next, ordinal_is, ordinal_within}
 use Rattle.whole.specs.Biased.{unbias_suc}
 use Rattle.days.specs.BiasedDays.{day_bias, day, year}
-use Rattle.days.specs.ClosedStarts.{Starts, label_of}
+use Rattle.days.specs.ClosedStarts.{Starts, label_of_lem}
 use Rattle.days.specs.RisingSpans.{next_month}
 
 -- the days of a year before its month m
@@ -51,7 +51,7 @@ number leap_at start y m d = start y + days_before_value (leap_at y) m + d - 1
 module _ {c : Reckoning} {leap_at : ℕ → Bool} {start : ℕ → ℕ} (s : Starts c leap_at start) where
   pub numbered : (y m d : ℕ) → There leap_at y m d → label_of c (day (number leap_at start y m d)) ≡ label (year y) m d
   numbered y m d (h, k, g, l) =
-      label_of s (number leap_at start y m d) y (days_before_value (leap_at y) m + d)
+      label_of_lem s (number leap_at start y m d) y (days_before_value (leap_at y) m + d)
       (record { from = omega arith; to = ordinal_within (leap_at y) m (days_before_value (leap_at y) m) d h k l (before (leap_at y) m h k); adds = sum (start y) (days_before_value (leap_at y) m) d g })
       ∙ ap (λ (p : DayOfMonth). label (year y) p.month p.day) (ordinal_is (leap_at y) m (days_before_value (leap_at y) m) d h k g l (before (leap_at y) m h k))
     where

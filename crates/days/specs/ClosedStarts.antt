@@ -73,8 +73,8 @@ module _ {c : Reckoning} {leap_at : ℕ → Bool} {start : ℕ → ℕ} (s : Sta
   label_at_lem y i h = on (start y) i ∙ ap (after c.leap i) (start_right y) ∙ within y i h
 
   -- and the label of the day is that of its ordinal
-  pub label_of : (k y o : ℕ) → InYear leap_at start k y o → label_of c (day k) ≡ day_of_year (leap_at y) (year y) o
-  label_of k y o p =
+  pub label_of_lem : (k y o : ℕ) → InYear leap_at start k y o → label_of c (day k) ≡ day_of_year (leap_at y) (year y) o
+  label_of_lem k y o p =
       ap (λ (n : ℕ). label_of c (day n)) (whole k y o p) ∙ label_at_lem y (o - 1) (omega arith) ∙ ap (day_of_year (leap_at y) (year y)) (one_on o p.from)
     where
       whole : (k y o : ℕ) → InYear leap_at start k y o → k ≡ start y + (o - 1)

@@ -11,7 +11,7 @@ use Rattle.days.specs.DayByDay.{Label, Reckoning, label_of, julian, gregorian, j
 use Rattle.days.specs.RisingLabels.{nth_within}
 use Rattle.days.specs.BiasedDays.{day_bias, day, year, BiasedDay, BiasedYear}
 use Rattle.days.specs.ClosedYear.{year_length}
-use Rattle.days.specs.ClosedStarts.{Starts, InYear, label_of}
+use Rattle.days.specs.ClosedStarts.{Starts, InYear, label_of_lem}
 use Rattle.days.specs.ClosedJulian as J
 use Rattle.days.specs.ClosedGregorian as G
 use Rattle.days.specs.ReformationTable.{fits_biased}
@@ -109,7 +109,7 @@ gregorian_alone = record {
 
 module _ {c : Calendar} {r : ℕ} {reckoning : Reckoning} {leap_at : ℕ → Bool} {start : ℕ → ℕ} (alone : Alone c r reckoning leap_at start) where
   of_year_lem : {k y o : ℕ} → InYear leap_at start k y o → OfYear (year y) (labels c (day k))
-  of_year_lem {k} {y} {o} p = ap (λ (l : Label). l.year) (alone.same (day k) ∙ label_of alone.starts k y o p)
+  of_year_lem {k} {y} {o} p = ap (λ (l : Label). l.year) (alone.same (day k) ∙ label_of_lem alone.starts k y o p)
 
   place_of : {k y o : ℕ} → BiasedYear y → InYear leap_at start k y o → Place (λ d. OfYear (year y) (labels c d)) (day k) o
   place_of {k} {y} {o} h p =

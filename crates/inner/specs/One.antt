@@ -6,7 +6,7 @@ use Rattle.whole.specs.Biased.{unbias_injective}
 use Rattle.days.specs.DayByDay.{Label, Reckoning, Is32Bit}
 use Rattle.days.specs.RisingLabels.{place_one, nth_one}
 use Rattle.days.specs.BiasedDays.{year_bias, year}
-use Rattle.days.specs.ClosedStarts.{Starts, InYear, label_of}
+use Rattle.days.specs.ClosedStarts.{Starts, InYear, label_of_lem}
 use Rattle.days.specs.ReformationTable.{fits_biased}
 use Rattle.inner.specs.declared.DayNumber.{DayNumber}
 use Rattle.inner.specs.declared.DayNumber.TheVariants as DayNumber'
@@ -39,7 +39,7 @@ pub in_year_one : {c : Reckoning} {leap_at : ℕ → Bool} {start : ℕ → ℕ}
     → InYear leap_at start k (biased_year_value y) o → InYear leap_at start k (biased_year_value z) p → (y ≡ z) × (o ≡ p)
 in_year_one {start = start} s {k} y z {o} {p} a b =
     let e : biased_year_value y ≡ biased_year_value z = unbias_injective year_bias (biased_year_value y) (biased_year_value z)
-    (ap (λ (l : Label). l.year) (sym (label_of s k (biased_year_value y) o a) ∙ label_of s k (biased_year_value z) p b)) in
+    (ap (λ (l : Label). l.year) (sym (label_of_lem s k (biased_year_value y) o a) ∙ label_of_lem s k (biased_year_value z) p b)) in
     (omega arith, rest (start (biased_year_value y)) (start (biased_year_value z)) (ap start e) a.adds b.adds)
   where
     rest : (m n : ℕ) → m ≡ n → m + o ≡ k + 1 → n + p ≡ k + 1 → o ≡ p

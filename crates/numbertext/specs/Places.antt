@@ -175,10 +175,10 @@ pub number_of : (s : List ℕ) (at : ℕ) (p : List ℕ) {n next : ℕ} → fron
 number_of s at p f h e k l =
     number_value s at refl (ap (run_from 4294967295 at) f ∙ run_value 4294967295 at p h (subst (λ (x : ℕ). x ≤ 4294967295) e l)) ∙ ap₂ Number.Value (sym e) (sym k)
 
-pub signed_of : (s : List ℕ) (p : List ℕ) {n next : ℕ} → 0 < length s → Digit (get_or s 0 0) → front (drop 0 s) ≡ p → 0 < length p → n ≡ value_of p → next ≡ length p
+pub signed_of_lem : (s : List ℕ) (p : List ℕ) {n next : ℕ} → 0 < length s → Digit (get_or s 0 0) → front (drop 0 s) ≡ p → 0 < length p → n ≡ value_of p → next ≡ length p
     → n ≤ 2147483647 → the_signed s 0 ≡ SignedNumber.Value (pos n) next
 unfolding signed_of
-signed_of s p h d f g e k l =
+signed_of_lem s p h d f g e k l =
     signed_plain s 0 h (λ e. omega (arith, d.low)) (λ e. omega (arith, d.low))
     ∙ signed_as false 0 _ (drop 0 s) refl refl (ap (run_from 2147483647 0) f ∙ run_value 2147483647 0 p g (subst (λ (x : ℕ). x ≤ 2147483647) e l))
     ∙ ap₂ (λ (x i : ℕ). SignedNumber.Value (pos x) i) (sym e) (omega arith)

@@ -1,0 +1,11 @@
+-- `bytesearch::up_to` meets its promise. The loop's invariant is `Going`, as in `by_eights`.
+use Rattle.bytesearch.specs.Laws.{Going, going_start, going_then, going_further}
+use native.Mathlib.Omega.{arith}
+use Prim.Native.Nat.{◌-◌}
+use Rattle.bytesearch.proofs.up_to.Given as goal
+
+abbrev pub invariant-loop-i : goal.invariant-loop-i
+invariant-loop-i l = Going l.b l.s l.from l.i
+
+abbrev pub decreases-loop-i : goal.decreases-loop-i
+decreases-loop-i l = l.end - l.i
