@@ -5,7 +5,7 @@ use Rattle.std.proofs.Common.{sym, ◌∙◌, ap, subst₂, inl, inr, ⊎_elim}
 use Rattle.std.proofs.Math.IntN.{suc_ℤ}
 use Rattle.std.specs.Int.Signed.{≤ℤ_refl}
 use Rattle.whole.specs.Integers.{lt_or_ge, back_lt}
-use Rattle.days.specs.DayByDay.{Label, label_of, julian, gregorian, ◌≺◌, splice, Thirtieth, JulianStyle, GregorianStyle, Era, julian_era, gregorian_era, era, Calendar, Julian, Gregorian, Reforming, timeline, labels, style, Rises, Borne, Accepted, julian_accepted, gregorian_accepted, reforming_accepted, swedish_accepted, SwitchDay, this, Skipped}
+use Rattle.days.specs.DayByDay.{Label, label_of, julian, gregorian, ◌≺◌, splice, Thirtieth, JulianStyle, GregorianStyle, Era, julian_era, gregorian_era, era, Calendar, Julian, Gregorian, Reforming, timeline, labels, style, Rises, Borne, Accepted, julian_accepted, gregorian_accepted, reforming_accepted, swedish_accepted, SwitchDay, this, later, Skipped}
 use Rattle.days.specs.LabelOrder.{≺-trans}
 use Rattle.days.specs.RisingLabels.{between_nowhere}
 use Rattle.days.specs.RisingSpans.{Proper}
@@ -65,6 +65,7 @@ reforming_rises r up = switches_rise (timeline (Reforming r)) (λ n y e. absurd 
   where
     over : (d : ℤ) → SwitchDay (timeline (Reforming r)).switches d → labels (Reforming r) (d -ℤ pos 1) ≺ labels (Reforming r) d
     over d this = subst₂ ◌≺◌ (sym (reforming_below r (back_lt r)).0) (sym (reforming_from r (≤ℤ_refl r)).0) (≺-trans (julian_rises (r -ℤ pos 1) r (back_lt r)) up)
+    over d (later none) = elim none [ ]
 
 pub accepted_rises : {c : Calendar} → Accepted c → Rises (labels c)
 accepted_rises julian_accepted = julian_rises

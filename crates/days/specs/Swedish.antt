@@ -96,6 +96,7 @@ first_later d this = over (pos 2_342_041) (pos 2_342_042) last_before_1700 first
 first_later d (later this) = over (pos 2_346_424) (pos 2_346_425) last_moved thirtieth (by_day refl refl (omega arith))
 first_later d (later (later this)) = over (pos 2_346_425) (pos 2_346_426) thirtieth first_julian_again (by_month refl (omega arith))
 first_later d (later (later (later this))) = over (pos 2_361_389) (pos 2_361_390) last_julian_1753 first_gregorian_1753 (by_month refl (omega arith))
+first_later d (later (later (later (later none)))) = elim none [ ]
 
 pub swedish_in_order : InOrder sweden.switches
 swedish_in_order = (lt_z_yes tt, (lt_z_yes tt, (lt_z_yes tt, tt)))

@@ -429,6 +429,7 @@ swedish_skips_only {l} s = by s.switches s.past_last s.before_first
     by (later this) h g = gap_1712 old (past (pos 2_346_424) last_moved h) (≺-trans (before (pos 2_346_425) thirtieth g) (by_month refl (omega arith)))
     by (later (later this)) h g = gap_1712 old (≺-trans (by_day refl refl (omega arith)) (past (pos 2_346_425) thirtieth h)) (before (pos 2_346_426) first_julian_again g)
     by (later (later (later this))) h g = gap_1753 old (past (pos 2_361_389) last_julian_1753 h) (before (pos 2_361_390) first_gregorian_1753 g)
+    by (later (later (later (later none)))) h g = elim none [ ]
 
 gap_days : {l : Label} → SwedishGap l → ((nat_abs l.year ≡ 1700) × (l.day ≡ 29)) ⊎ ((nat_abs l.year ≡ 1753) × (l.day ≤ 28))
 gap_days in_1700 = inl (refl, refl)
