@@ -1,5 +1,4 @@
 -- A refusal by its number, its place and its value.
--- Assumes nothing.
 use Rattle.std.specs.Prelude.{ℕ, ℤ}
 use Rattle.refusals.specs.declared.Refusal.{Refusal}
 
