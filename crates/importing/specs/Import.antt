@@ -1,5 +1,5 @@
 -- The import as the request M-101 has it: what is written for a catalogue and a comma-separated text. Nothing here reads or writes.
--- What a text comes to, record by record, stands in `Contents` of the crate `csv`; what the listing writes for a line in `Lines` of the crate `listing`.
+-- What a text comes to, record by record, stands in `Contents` of the crate `commatext`; what the listing writes for a line in `Lines` of the crate `listing`.
 -- Assumes nothing.
 use Rattle.std.specs.Prelude.{ℕ, List, [], ◌∷◌, ◌++◌, pos}
 use Rattle.refusals.specs.Promise.{refusal}
@@ -11,9 +11,9 @@ use Rattle.linetext.specs.Line.{Ended}
 use Rattle.linetext.specs.declared.Line.TheVariants as Line'
 use Rattle.columns.specs.Columns.{header}
 use Rattle.listing.specs.Lines.{Listed}
-use Rattle.csv.specs.Promise.{line_of}
-use Rattle.csv.specs.Contents.{Outcome, entry, Reads}
-use Rattle.csv.specs.Contents as Contents
+use Rattle.commatext.specs.Promise.{line_of}
+use Rattle.commatext.specs.Contents.{Outcome, entry, Reads}
+use Rattle.commatext.specs.Contents as Contents
 
 -- ---- what is written, where the answer to each name is given: N
 

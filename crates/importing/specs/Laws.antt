@@ -16,11 +16,11 @@ use Rattle.linetext.specs.Promise.{LineOut}
 use Rattle.linetext.specs.declared.Line.TheVariants as Line'
 use Rattle.listing.specs.Promise.{HeldLine, LastLine}
 use Rattle.listing.specs.Laws.{Wrote, wrote_it, held_short, listed_also}
-use Rattle.csv.specs.declared.Scan.{Scan}
-use Rattle.csv.specs.declared.Scan.TheVariants.{Entry, Miscounted, Stops}
-use Rattle.csv.specs.Grammar.{comma, quote, Quoted, Field, Record, LineEnd, longest_record}
-use Rattle.csv.specs.Promise.{Closes, line_of, Scans}
-use Rattle.csv.specs.Contents.{Outcome}
+use Rattle.commatext.specs.declared.Scan.{Scan}
+use Rattle.commatext.specs.declared.Scan.TheVariants.{Entry, Miscounted, Stops}
+use Rattle.commatext.specs.Grammar.{comma, quote, Quoted, Field, Record, LineEnd, longest_record}
+use Rattle.commatext.specs.Promise.{Closes, line_of, Scans}
+use Rattle.commatext.specs.Contents.{Outcome}
 use Rattle.importing.specs.Import.{Imported, AllImported}
 use Rattle.importing.specs.declared.Taken.{Taken}
 use Rattle.importing.specs.declared.Stopped.{Stopped}

@@ -17,9 +17,9 @@ use Rattle.linetext.specs.declared.Line.TheVariants as Line'
 use Rattle.linetext.specs.One.{ended_one}
 use Rattle.columns.specs.Columns.{header}
 use Rattle.listing.specs.One.{listed_one, held_line_one}
-use Rattle.csv.specs.declared.Scan.{Scan}
-use Rattle.csv.specs.One.{scans_one, reads_one}
-use Rattle.csv.specs.Contents.{Outcome}
+use Rattle.commatext.specs.declared.Scan.{Scan}
+use Rattle.commatext.specs.One.{scans_one, reads_one}
+use Rattle.commatext.specs.Contents.{Outcome}
 use Rattle.importing.specs.declared.Taken.{Taken}
 use Rattle.importing.specs.declared.Stopped.{Stopped}
 use Rattle.importing.specs.Import.{Imported, AllImported, Import, imported, refused}

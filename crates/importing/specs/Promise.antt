@@ -9,8 +9,8 @@ use Rattle.linetext.specs.Line.{longest_line}
 use Rattle.linetext.specs.Promise.{LineOut}
 use Rattle.linetext.specs.declared.Line.TheVariants as Line'
 use Rattle.listing.specs.Promise.{HeldLine}
-use Rattle.csv.specs.declared.Scan.TheVariants.{Entry, Miscounted, Stops, Undecided}
-use Rattle.csv.specs.Promise.{Scans}
+use Rattle.commatext.specs.declared.Scan.TheVariants.{Entry, Miscounted, Stops, Undecided}
+use Rattle.commatext.specs.Promise.{Scans}
 use Rattle.importing.specs.declared.Taken.{Taken}
 use Rattle.importing.specs.declared.Stopped.{Stopped}
 use Rattle.importing.specs.declared.Progress.{Progress}

@@ -19,12 +19,12 @@ use Rattle.linetext.specs.declared.Line.TheVariants as Line'
 use Rattle.listing.specs.Lines.{Listed, listed}
 use Rattle.listing.specs.Promise.{HeldAnswer, HeldLine}
 use Rattle.listing.specs.Laws.{held_short}
-use Rattle.csv.specs.declared.Scan.TheVariants as Scan'
-use Rattle.csv.specs.Grammar.{Field, Record, longest_record}
-use Rattle.csv.specs.Contents.{Where, Begun, NoLineEnd, Faulty, Outcome, entry, refused, outcome_of, Reads}
-use Rattle.csv.specs.Promise.{Closes, line_of, Scans}
-use Rattle.csv.specs.One.{reads_one}
-use Rattle.csv.specs.Theorems.{field_without_tab}
+use Rattle.commatext.specs.declared.Scan.TheVariants as Scan'
+use Rattle.commatext.specs.Grammar.{Field, Record, longest_record}
+use Rattle.commatext.specs.Contents.{Where, Begun, NoLineEnd, Faulty, Outcome, entry, refused, outcome_of, Reads}
+use Rattle.commatext.specs.Promise.{Closes, line_of, Scans}
+use Rattle.commatext.specs.One.{reads_one}
+use Rattle.commatext.specs.Theorems.{field_without_tab}
 use Rattle.importing.specs.declared.Taken.{Taken}
 use Rattle.importing.specs.declared.Stopped.{Stopped}
 use Rattle.importing.specs.Import.{Imported, AllImported}

@@ -17,8 +17,8 @@ ghost use Rattle.listing.specs.Laws.{Wrote};
 ghost use Rattle.importing.specs.Promise.{place_of, import_state, TakesRecord, Imports, progress_of};
 
 use catalogue::{Links, Names};
-pub use csv::LONGEST_RECORD;
-use csv::Scan;
+pub use commatext::LONGEST_RECORD;
+use commatext::Scan;
 use linetext::LONGEST_LINE;
 pub use listing::{put_header, put_refused};
 use writer::{Written, buffer};
@@ -87,7 +87,7 @@ fn take_record(
     requires { (at < length text.now) × (used + longest_line ≤ length out.old) }
     ensures { TakesRecord (NamesIn (memory names.now links.now)) ends offset text.now (import_state at line.old out.old used) line.new out.new result }
 {
-    match csv::read_record(&text[at..], ends, line) {
+    match commatext::read_record(&text[at..], ends, line) {
         Scan::Entry(size, next) => {
             let end = put_entry(names, links, line, size, out, used);
             Taken::Written(at + next, end)
