@@ -5,7 +5,7 @@ use Rattle.std.proofs.Common.{sym, ◌∙◌, ap, subst, arith}
 use Rattle.whole.specs.Biased.{unbias_injective}
 use Rattle.days.specs.DayByDay.{Label, Reckoning, Is32Bit}
 use Rattle.days.specs.RisingLabels.{place_one, nth_one}
-use Rattle.days.specs.BiasedDays.{year_bias, year}
+use Rattle.days.specs.BiasedDays.{year_bias}
 use Rattle.days.specs.ClosedStarts.{Starts, InYear, label_of_lem}
 use Rattle.days.specs.ReformationTable.{fits_biased}
 use Rattle.inner.specs.declared.DayNumber.{DayNumber}

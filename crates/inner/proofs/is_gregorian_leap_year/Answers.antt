@@ -1,0 +1,12 @@
+-- `inner::is_gregorian_leap_year` meets its promise.
+use mathlib.Core.Path.{◌∙◌, sym, ap}
+use mir.Facts.{to_z-of_z}
+use Rattle.days.specs.DayByDay.{gregorian_leap}
+use Rattle.inner.specs.Laws.{gregorian_leap_lem, biased_year}
+use Rattle.inner.specs.Natural.{biased_year_value}
+use Rattle.inner.proofs.is_gregorian_leap_year.Goals as goal
+
+pub returns : goal.returns
+returns c =
+    let x = c.raised.result in
+    c.is_gregorian_leap.ensures ∙ sym (gregorian_leap_lem (biased_year_value x)) ∙ ap gregorian_leap (biased_year x ∙ c.raised.ensures ∙ to_z-of_z c.ranges.year)
