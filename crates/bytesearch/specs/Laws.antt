@@ -1,5 +1,4 @@
 -- Bytes passed one after another.
--- Assumes nothing.
 use Rattle.std.specs.Prelude.{ℕ, suc, ◌+◌, ◌≤◌, ◌<◌, ◌≡◌, refl, List, [], ◌∷◌, ◌++◌, length, get_or, drop}
 use Rattle.std.proofs.Common.{sym, ◌∙◌, ap, subst, append_assoc, append-nil, arith, length-append, length-drop, drop-cons}
 use Rattle.std.specs.Int.Bits.{bit_or, or_add_and}

@@ -1,5 +1,4 @@
 -- Two offsets that the promise allows for one input are equal.
--- Assumes nothing.
 use Rattle.std.specs.Prelude.{ℕ, ◌+◌, ◌≡◌, refl, List, [], ◌∷◌, ◌++◌, length}
 use Rattle.std.proofs.Common.{sym, ◌∙◌, ap, ap₂, arith}
 use Rattle.bytesearch.specs.Promise.{Without, UpTo}

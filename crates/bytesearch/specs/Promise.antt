@@ -1,5 +1,4 @@
 -- Where a byte stands first, from an offset on. A byte is any number below 256.
--- Assumes nothing.
 use Rattle.std.specs.Prelude.{ℕ, ◌+◌, ◌≡◌, List, [], ◌∷◌, ◌++◌, length, drop}
 
 -- no byte of s is b

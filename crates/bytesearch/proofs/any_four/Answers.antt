@@ -1,6 +1,5 @@
 -- `bytesearch::any_four` meets its promise: an answer 0 is made of answers 0 (`or_none`).
 use Rattle.bytesearch.specs.Laws.{or_none, past_four}
-use borrow.Author.Rules.{rules}
 use Rattle.bytesearch.proofs.any_four.Goals as goal
 
 pub returns : goal.returns

@@ -1,6 +1,5 @@
 -- `bytesearch::any_sixteen` meets its promise: an answer 0 is made of answers 0 (`or_none`).
 use Rattle.bytesearch.specs.Laws.{or_none, fours_passed}
-use borrow.Author.Rules.{rules}
 use Rattle.bytesearch.proofs.any_sixteen.Goals as goal
 
 pub returns : goal.returns

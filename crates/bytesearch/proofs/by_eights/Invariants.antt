@@ -1,6 +1,5 @@
 -- `bytesearch::by_eights` meets its promise. The loop's invariant is `Going`: what was passed is without the byte. The measure is what is left before the offset at which fewer than eight bytes are left.
-use Rattle.bytesearch.specs.Laws.{Going, going_start, going_then, four_found, four_passed, eight_passed}
-use native.Mathlib.Omega.{arith}
+use Rattle.bytesearch.specs.Laws.{Going}
 use Prim.Native.Nat.{◌-◌}
 use Rattle.bytesearch.proofs.by_eights.Given as goal
 

@@ -1,7 +1,6 @@
 -- `bytesearch::in_four` meets its promise: the bytes before the first that is found are passed.
 use Rattle.bytesearch.specs.Laws.{in_four_first, in_four_at, in_four_none, past_one, past_two, past_three, past_four}
 use native.Mathlib.Omega.{arith}
-use borrow.Author.Rules.{rules}
 use Rattle.bytesearch.proofs.in_four.Goals as goal
 
 pub returns-then-s-at : goal.returns-then-s-at

@@ -1,8 +1,6 @@
 -- `bytesearch::next_to` meets its promise. The loop's invariant is `Going`: what was passed is without the byte. The measure is what is left of the slice.
-use Rattle.bytesearch.specs.Laws.{Going, going_start, going_on, going_found, going_ended}
+use Rattle.bytesearch.specs.Laws.{going_start, going_on, going_found, going_ended}
 use native.Mathlib.Omega.{arith}
-use Prim.Native.Nat.{◌-◌}
-use lib.ListN.{length}
 use Rattle.bytesearch.proofs.next_to.Goals as goal
 
 pub loop-i-init : goal.loop-i-init

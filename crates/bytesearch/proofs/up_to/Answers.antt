@@ -1,7 +1,6 @@
 -- `bytesearch::up_to` meets its promise. The loop's invariant is `Going`, as in `by_eights`.
-use Rattle.bytesearch.specs.Laws.{Going, going_start, going_then, going_further}
+use Rattle.bytesearch.specs.Laws.{going_start, going_then, going_further}
 use native.Mathlib.Omega.{arith}
-use Prim.Native.Nat.{◌-◌}
 use Rattle.bytesearch.proofs.up_to.Goals as goal
 
 pub loop-i-init : goal.loop-i-init

@@ -1,6 +1,5 @@
 -- `bytesearch::up_to` meets its promise. The loop's invariant is `Going`, as in `by_eights`.
-use Rattle.bytesearch.specs.Laws.{Going, going_start, going_then, going_further}
-use native.Mathlib.Omega.{arith}
+use Rattle.bytesearch.specs.Laws.{Going}
 use Prim.Native.Nat.{◌-◌}
 use Rattle.bytesearch.proofs.up_to.Given as goal
 
