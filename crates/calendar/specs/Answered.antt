@@ -5,10 +5,10 @@ use Rattle.std.proofs.Common.{subst, inl, inr, ⊎_elim, arith}
 use Rattle.whole.specs.Tests as N
 use Rattle.whole.specs.Promise.{unbias}
 use Rattle.days.specs.DayByDay.{Label, label, Timeline, labels_in, OfYear, Place, Month, Rising}
-use Rattle.days.specs.RisingLabels.{days_one}
+use Rattle.days.proofs.RisingLabels.{days_one}
 use Rattle.days.specs.RisingSpans.{Stretch}
-use Rattle.days.specs.RisingTimelines.{rising_rises, timeline_proper, timeline_most}
-use Rattle.days.specs.RisingDecided.{Decided, fits_or_not, borne_or_not, skipped_or_not, year_days}
+use Rattle.days.proofs.RisingTimelines.{rising_rises, timeline_proper, timeline_most}
+use Rattle.days.proofs.RisingDecided.{Decided, fits_or_not, borne_or_not, skipped_or_not, year_days}
 use Rattle.calendar.specs.declared.Calendar.{Calendar}
 use Rattle.calendar.specs.declared.Dated.{Dated}
 use Rattle.calendar.specs.declared.Dated.TheVariants as Dated'

@@ -10,15 +10,15 @@ use Rattle.whole.specs.Tests.{true_or_false}
 use Rattle.whole.specs.Biased.{unbias_suc, unbias_back, unbias_injective}
 use Rattle.whole.specs.Promise.{unbias}
 use Rattle.days.specs.DayByDay.{label, style, Is32Bit}
-use Rattle.days.specs.RisingLabels.{once}
-use Rattle.days.specs.ReckoningSteps.{month_least}
-use Rattle.days.specs.ClosedEnds.{suc_is, pred_is}
+use Rattle.days.proofs.RisingLabels.{once}
+use Rattle.days.proofs.ReckoningSteps.{month_least}
+use Rattle.days.proofs.ClosedEnds.{suc_is, pred_is}
 use Rattle.days.specs.BiasedDays.{day_bias, year_bias, day, year, BiasedYear}
-use Rattle.days.specs.ClosedJulian as J
-use Rattle.days.specs.ClosedGregorian as G
+use Rattle.days.proofs.ClosedJulian as J
+use Rattle.days.proofs.ClosedGregorian as G
 use Rattle.days.specs.ClosedNumbers.{days_before_value, ThereIn}
-use Rattle.days.specs.AcceptedCalendars.{accepted_rises}
-use Rattle.days.specs.ClosedRuns.{Runs, runs_one, on_none}
+use Rattle.days.proofs.AcceptedCalendars.{accepted_rises}
+use Rattle.days.proofs.ClosedRuns.{Runs, runs_one, on_none}
 use Rattle.inner.specs.Natural.{biased_day, biased_year_value}
 use Rattle.inner.specs.Laws.{biased_day_lem}
 use Rattle.inner.specs.Spots.{spot}

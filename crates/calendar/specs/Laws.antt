@@ -6,19 +6,19 @@ use Rattle.whole.specs.Tests.{lt_or_ge}
 use Rattle.whole.specs.Promise.{unbias}
 use Rattle.days.specs.DayByDay as D
 use Rattle.days.specs.DayByDay.{AcceptedReformation, Label, label, Borne, OfYear, Place, Ordinal, DayOrdinal, Is32Bit, JulianStyle, GregorianStyle, SwedishStyle, style, Month, month_length}
-use Rattle.days.specs.RisingLabels.{nth_within}
+use Rattle.days.proofs.RisingLabels.{nth_within}
 use Rattle.days.specs.BiasedDays.{day_bias, day, year, BiasedYear}
-use Rattle.days.specs.ClosedYear.{year_length, year_most}
+use Rattle.days.proofs.ClosedYear.{year_length, year_most}
 use Rattle.days.specs.RisingSpans.{Stretch}
-use Rattle.days.specs.ReckoningSteps.{month_most}
+use Rattle.days.proofs.ReckoningSteps.{month_most}
 use Rattle.days.specs.ClosedStarts.{InYear}
-use Rattle.days.specs.ClosedJulian as J
-use Rattle.days.specs.ClosedGregorian as G
-use Rattle.days.specs.ClosedNumbers.{days_before_value, few_before, ThereIn}
+use Rattle.days.proofs.ClosedJulian as J
+use Rattle.days.proofs.ClosedGregorian as G
+use Rattle.days.proofs.ClosedNumbers.{days_before_value, few_before, ThereIn}
 use Rattle.days.specs.ReformationRules.{all_three}
-use Rattle.days.specs.ReformationTable.{accepts_only, fits_biased, there_too}
-use Rattle.days.specs.AcceptedCalendars.{labels_proper, skipped_nowhere}
-use Rattle.days.specs.ClosedRuns.{Runs, reforming_runs, top, first_day_value, first_cases, first_julian, first_reform, year_first, month_first_value, julian_month_value, gregorian_month, year_plain, month_plain, year_stretch, ordinal_at, day_ordinal_at, on_old, on_new, day_before, month_over, in_gap, on_none}
+use Rattle.days.proofs.ReformationTable.{accepts_only, fits_biased, there_too}
+use Rattle.days.proofs.AcceptedCalendars.{labels_proper, skipped_nowhere}
+use Rattle.days.proofs.ClosedRuns.{Runs, reforming_runs, top, first_day_value, first_cases, first_julian, first_reform, year_first, month_first_value, julian_month_value, gregorian_month, year_plain, month_plain, year_stretch, ordinal_at, day_ordinal_at, on_old, on_new, day_before, month_over, in_gap, on_none}
 use Rattle.inner.specs.Natural.{biased_day, biased_year_value, Lowers, within, beyond}
 use Rattle.monthdays.specs.Promise.{MonthDayAt, OrdinalOf}
 use Rattle.inner.specs.Laws.{biased_day_lem, julian_alone, gregorian_alone, spot_of_year}

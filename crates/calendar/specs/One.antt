@@ -4,10 +4,10 @@ use Rattle.std.specs.Prelude.{◌≡◌, refl, Bool, ℕ, ℤ}
 use Rattle.std.proofs.Common.{sym, ◌∙◌, ap, subst}
 use Rattle.whole.specs.One.{whether_one}
 use Rattle.days.specs.DayByDay.{Label, label, Timeline, labels_in, Rises}
-use Rattle.days.specs.RisingLabels.{once, place_one, nth_one}
-use Rattle.days.specs.AcceptedCalendars.{accepted_rises}
-use Rattle.days.specs.ReformationTable.{judged_one}
-use Rattle.days.specs.ClosedRuns.{runs_one}
+use Rattle.days.proofs.RisingLabels.{once, place_one, nth_one}
+use Rattle.days.proofs.AcceptedCalendars.{accepted_rises}
+use Rattle.days.proofs.ReformationTable.{judged_one}
+use Rattle.days.proofs.ClosedRuns.{runs_one}
 use Rattle.calendar.specs.declared.Calendar.{Calendar}
 use Rattle.calendar.specs.declared.Calendar.TheVariants as Calendar'
 use Rattle.calendar.specs.declared.Style.{Style}

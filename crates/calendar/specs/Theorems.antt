@@ -4,11 +4,11 @@ use Rattle.std.specs.Prelude.{◌≡◌, refl, ◌⊎◌, ℕ, ◌≤◌, ◌<�
 use Rattle.std.proofs.Common.{sym, ◌∙◌, ap, subst, ⊎_elim, arith}
 use Rattle.std.proofs.Math.IntN.{suc_ℤ, pred_ℤ, pred-suc, suc-pred}
 use Rattle.days.specs.DayByDay.{Label, label, Timeline, labels_in, style_in, OfYear, Place, Is32Bit, Month, Rising}
-use Rattle.days.specs.RisingLabels.{once, nth_one, nth_within}
-use Rattle.days.specs.RisingTimelines.{rising_rises, timeline_proper, skipped_in_nowhere}
-use Rattle.days.specs.RisingPlaces.{has_ordinal, has_day_ordinal}
-use Rattle.days.specs.AcceptedCalendars.{accepted_rises}
-use Rattle.days.specs.AcceptedYears.{accepted_rising}
+use Rattle.days.proofs.RisingLabels.{once, nth_one, nth_within}
+use Rattle.days.proofs.RisingTimelines.{rising_rises, timeline_proper, skipped_in_nowhere}
+use Rattle.days.proofs.RisingPlaces.{has_ordinal, has_day_ordinal}
+use Rattle.days.proofs.AcceptedCalendars.{accepted_rises}
+use Rattle.days.proofs.AcceptedYears.{accepted_rising}
 use Rattle.calendar.specs.declared.Calendar.{Calendar}
 use Rattle.calendar.specs.declared.Date.{Date}
 use Rattle.calendar.specs.declared.Dated.{Dated}

@@ -3,7 +3,7 @@
 use Rattle.std.specs.Prelude.{ℕ, ◌+◌, ◌^◌, ◌≡◌, refl, List, [], ◌∷◌, ◌++◌, length, ℤ, pos}
 use Rattle.std.proofs.Common.{sym, ◌∙◌, ap, ap₂, subst, append_assoc, append-nil, inl, inr, arith}
 use Rattle.days.specs.DayByDay.{Is32Bit}
-use Rattle.days.specs.ReformationTable.{judged_one}
+use Rattle.days.proofs.ReformationTable.{judged_one}
 use Rattle.refusals.specs.declared.Refusal.{Refusal}
 use Rattle.refusals.specs.Promise.{refusal}
 use Rattle.calendar.specs.Rows.{refuses, passes}

@@ -8,7 +8,7 @@ use Rattle.std.proofs.Common.{sym, ◌∙◌, ap, subst, append_assoc, append-ni
 use Rattle.std.proofs.Math.ListN.{get_or-append}
 use Rattle.std.proofs.Math.Seq.{get_or-append_seam}
 use Rattle.days.specs.DayByDay.{AcceptedReformation, reforming_accepted}
-use Rattle.days.specs.ReformationTable.{judged_some}
+use Rattle.days.proofs.ReformationTable.{judged_some}
 use Rattle.days.specs.ReformationRules.{all_three, no_day_before, no_julian_day, not_later}
 use Rattle.refusals.specs.declared.Refusal.{Refusal}
 use Rattle.calendar.specs.Calendars.{Accepted}

@@ -3,7 +3,7 @@
 use Rattle.std.specs.Prelude.{◌≡◌, List, ℕ, ℤ}
 use Rattle.std.proofs.Common.{sym, ◌∙◌, ap, subst}
 use Rattle.days.specs.DayByDay.{Timeline, labels_in, Rises}
-use Rattle.days.specs.AcceptedCalendars.{accepted_rises}
+use Rattle.days.proofs.AcceptedCalendars.{accepted_rises}
 use Rattle.calendar.specs.declared.Calendar.{Calendar}
 use Rattle.calendar.specs.declared.Date.{Date}
 use Rattle.calendar.specs.declared.Dated.TheVariants as Dated'

@@ -3,9 +3,9 @@
 use Rattle.std.specs.Prelude.{◌≡◌, refl, List, ℕ, ◌≤◌, ℤ, pos, negsuc, ◌≤ℤ◌, length, take}
 use Rattle.std.proofs.Common.{sym, ◌∙◌, ap, subst, ⊎_elim, arith}
 use Rattle.days.specs.DayByDay.{Label, label, Timeline, labels_in, OfYear, Place, Is32Bit, Rising, Month}
-use Rattle.days.specs.RisingLabels.{once, nth_one}
-use Rattle.days.specs.RisingTimelines.{rising_rises, timeline_proper, timeline_most}
-use Rattle.days.specs.AcceptedYears.{year_from, year_to, year_short, accepted_rising}
+use Rattle.days.proofs.RisingLabels.{once, nth_one}
+use Rattle.days.proofs.RisingTimelines.{rising_rises, timeline_proper, timeline_most}
+use Rattle.days.proofs.AcceptedYears.{year_from, year_to, year_short, accepted_rising}
 use Rattle.calendar.specs.declared.Calendar.{Calendar}
 use Rattle.calendar.specs.declared.Date.{Date}
 use Rattle.calendar.specs.declared.Dated.{Dated}

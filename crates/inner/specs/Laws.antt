@@ -8,14 +8,14 @@ use Rattle.whole.specs.Promise.{unbias}
 use Rattle.whole.specs.Machine.{back, unbias_both}
 use Rattle.whole.specs.Edge.{unbias_fits_only}
 use Rattle.days.specs.DayByDay.{Label, Reckoning, label_of, julian, gregorian, julian_leap, gregorian_leap, Calendar, Julian, Gregorian, labels, OfYear, Place, Ordinal}
-use Rattle.days.specs.RisingLabels.{nth_within}
+use Rattle.days.proofs.RisingLabels.{nth_within}
 use Rattle.days.specs.BiasedDays.{day_bias, day, year, BiasedDay, BiasedYear}
 use Rattle.days.specs.ClosedYear.{year_length}
-use Rattle.days.specs.ClosedStarts.{Starts, InYear, label_of_lem}
-use Rattle.days.specs.ClosedJulian as J
-use Rattle.days.specs.ClosedGregorian as G
-use Rattle.days.specs.ReformationTable.{fits_biased}
-use Rattle.days.specs.ClosedRuns.{Runs, top, julian_runs, gregorian_runs, year_first, first_julian, first_gregorian, year_stretch, year_plain}
+use Rattle.days.proofs.ClosedStarts.{Starts, InYear, label_of_lem}
+use Rattle.days.proofs.ClosedJulian as J
+use Rattle.days.proofs.ClosedGregorian as G
+use Rattle.days.proofs.ReformationTable.{fits_biased}
+use Rattle.days.proofs.ClosedRuns.{Runs, top, julian_runs, gregorian_runs, year_first, first_julian, first_gregorian, year_stretch, year_plain}
 use Rattle.inner.specs.declared.DayNumber.{DayNumber}
 use Rattle.inner.specs.declared.DayNumber.TheVariants as DayNumber'
 use Rattle.inner.specs.Promise.{YearAndOrdinal, OrdinalDay, DayOfOrdinal, numbered, no_such_day, outside_32}

@@ -4,10 +4,10 @@ use Rattle.std.specs.Prelude.{◌≡◌, refl, Bool, ℕ, ◌+◌, ℤ}
 use Rattle.std.proofs.Common.{sym, ◌∙◌, ap, subst, arith}
 use Rattle.whole.specs.Biased.{unbias_injective}
 use Rattle.days.specs.DayByDay.{Label, Reckoning, Is32Bit}
-use Rattle.days.specs.RisingLabels.{place_one, nth_one}
+use Rattle.days.proofs.RisingLabels.{place_one, nth_one}
 use Rattle.days.specs.BiasedDays.{year_bias}
-use Rattle.days.specs.ClosedStarts.{Starts, InYear, label_of_lem}
-use Rattle.days.specs.ReformationTable.{fits_biased}
+use Rattle.days.proofs.ClosedStarts.{Starts, InYear, label_of_lem}
+use Rattle.days.proofs.ReformationTable.{fits_biased}
 use Rattle.inner.specs.declared.DayNumber.{DayNumber}
 use Rattle.inner.specs.declared.DayNumber.TheVariants as DayNumber'
 use Rattle.inner.specs.Promise.{YearAndOrdinal, OrdinalDay, DayOfOrdinal, numbered, no_such_day, outside_32}

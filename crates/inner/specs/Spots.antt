@@ -3,9 +3,9 @@
 use Rattle.std.specs.Prelude.{◌≡◌, Bool, ℕ, ◌+◌, ◌-◌, ◌≤◌}
 use Rattle.std.proofs.Common.{arith}
 use Rattle.days.specs.BiasedDays.{BiasedYear}
-use Rattle.days.specs.ClosedYear.{year_most}
-use Rattle.days.specs.ClosedNumbers.{There, number, days_before_value, before}
-use Rattle.days.specs.ClosedMonths.{ordinal_within}
+use Rattle.days.proofs.ClosedYear.{year_most}
+use Rattle.days.proofs.ClosedNumbers.{There, number, days_before_value, before}
+use Rattle.days.proofs.ClosedMonths.{ordinal_within}
 use Rattle.inner.specs.declared.Spot.{Spot}
 
 abbrev pub spot : ℕ → ℕ → ℕ → ℕ → ℕ → Spot

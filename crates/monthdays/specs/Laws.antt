@@ -8,13 +8,13 @@ use Rattle.std.specs.Int.Signed.{clash_ℤ}
 use Rattle.whole.specs.Tests.{lt_or_ge}
 use Rattle.whole.specs.Integers.{lt_suc, eq_le}
 use Rattle.days.specs.DayByDay.{Label, label, LeapRule, month_length, Month}
-use Rattle.days.specs.ReckoningSteps as Steps
-use Rattle.days.specs.ReckoningSteps.{Valid, after, after_stepping, after_sum, after_valid}
-use Rattle.days.specs.LabelOrder.{≺-year}
-use Rattle.days.specs.ClosedYear.{year_length, DayOfMonth as MonthAndDay, day_of_month, day_of_year, year_most, year_walk, year_over}
-use Rattle.days.specs.ClosedMonths.{twelve, ordinal_is, ordinal_within}
-use Rattle.days.specs.ClosedNumbers.{days_before_value, before, to_thirty_value, month_at, month_at_lem}
-use Rattle.days.specs.ReckoningLabels.{after_later}
+use Rattle.days.proofs.ReckoningSteps as Steps
+use Rattle.days.proofs.ReckoningSteps.{Valid, after, after_stepping, after_sum, after_valid}
+use Rattle.days.proofs.LabelOrder.{≺-year}
+use Rattle.days.proofs.ClosedYear.{year_length, DayOfMonth as MonthAndDay, day_of_month, day_of_year, year_most, year_walk, year_over}
+use Rattle.days.proofs.ClosedMonths.{twelve, ordinal_is, ordinal_within}
+use Rattle.days.proofs.ClosedNumbers.{days_before_value, before, to_thirty_value, month_at, month_at_lem}
+use Rattle.days.proofs.ReckoningLabels.{after_later}
 use Rattle.monthdays.specs.declared.MonthDay.TheVariants as MonthDay'
 use Rattle.monthdays.specs.declared.DayOrdinal.TheVariants as DayOrdinal'
 use Rattle.monthdays.specs.Promise.{OfOrdinal, MonthDayOf, month_day, OrdinalOf, ordinal, MonthDayAt}

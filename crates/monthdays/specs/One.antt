@@ -4,9 +4,9 @@ use Rattle.std.specs.Prelude.{◌≡◌, refl, Bool, ℕ, suc, ◌+◌, ◌-◌,
 use Rattle.std.proofs.Common.{sym, ◌∙◌, ap, subst, ⊎_elim, arith}
 use Rattle.whole.specs.Tests.{lt_or_ge}
 use Rattle.days.specs.DayByDay.{Label, label, ◌≺◌, next_label, prev_label, stepping}
-use Rattle.days.specs.LabelOrder.{≺-irrefl}
-use Rattle.days.specs.ReckoningSteps.{after, after_stepping, after_sum}
-use Rattle.days.specs.ReckoningLabels.{after_later}
+use Rattle.days.proofs.LabelOrder.{≺-irrefl}
+use Rattle.days.proofs.ReckoningSteps.{after, after_stepping, after_sum}
+use Rattle.days.proofs.ReckoningLabels.{after_later}
 use Rattle.days.specs.ClosedNumbers.{days_before_value}
 use Rattle.monthdays.specs.declared.MonthDay.{MonthDay}
 use Rattle.monthdays.specs.declared.DayOrdinal.{DayOrdinal}

@@ -5,8 +5,8 @@ use Rattle.std.proofs.Common.{arith}
 use Rattle.std.proofs.Math.Facts.{leb_yes, ltb_yes}
 use Rattle.days.specs.DayByDay.{Month, month_length}
 use Rattle.days.specs.BiasedDays.{day, year}
-use Rattle.days.specs.ReformationTable.{accepts}
-use Rattle.days.specs.ClosedRuns.{reforming_runs}
+use Rattle.days.proofs.ReformationTable.{accepts}
+use Rattle.days.proofs.ClosedRuns.{reforming_runs}
 use Rattle.calendar.specs.declared.Calendar.TheVariants.{Reforming}
 use Rattle.calendar.specs.Calendars.{labels}
 use Rattle.switches.specs.Promise.{month_span}

@@ -5,15 +5,15 @@ use Rattle.std.proofs.Common.{sym, ◌∙◌, ap, ap₂, subst, subst₂, inl, i
 use Rattle.whole.specs.Tests.{lt_or_ge}
 use Rattle.whole.specs.Integers.{unbias_le}
 use Rattle.days.specs.DayByDay.{Label, label, label_of, julian, gregorian, ◌≺◌, Borne, AcceptedReformation}
-use Rattle.days.specs.LabelOrder.{≺-irrefl}
-use Rattle.days.specs.RisingLabels.{no_later}
+use Rattle.days.proofs.LabelOrder.{≺-irrefl}
+use Rattle.days.proofs.RisingLabels.{no_later}
 use Rattle.days.specs.BiasedDays.{day_bias, day, year}
-use Rattle.days.specs.ReckoningLabels.{julian_rises}
-use Rattle.days.specs.ClosedJulian as J
-use Rattle.days.specs.ClosedGregorian as G
-use Rattle.days.specs.ClosedNumbers.{There, number, numbered, there}
+use Rattle.days.proofs.ReckoningLabels.{julian_rises}
+use Rattle.days.proofs.ClosedJulian as J
+use Rattle.days.proofs.ClosedGregorian as G
+use Rattle.days.proofs.ClosedNumbers.{There, number, numbered, there}
 use Rattle.days.specs.ClosedRuns.{julian_month_value}
-use Rattle.days.specs.ReformationTable.{there_too}
+use Rattle.days.proofs.ReformationTable.{there_too}
 use Rattle.calendar.specs.declared.Calendar.{Calendar}
 use Rattle.calendar.specs.Calendars.{labels}
 use Rattle.switches.specs.declared.MonthSpan.{MonthSpan}

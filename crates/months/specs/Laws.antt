@@ -5,17 +5,17 @@ use Rattle.std.proofs.Common.{sym, ◌∙◌, ap, subst, subst₂, inl, inr, ⊎
 use Rattle.whole.specs.Tests.{lt_or_ge}
 use Rattle.whole.specs.Integers.{unbias_le}
 use Rattle.days.specs.DayByDay.{Label, label, Reckoning, label_of, julian, gregorian, OfYear, OfMonth, Place, month_length, Month}
-use Rattle.days.specs.RisingLabels.{once, days_one}
+use Rattle.days.proofs.RisingLabels.{once, days_one}
 use Rattle.days.specs.BiasedDays.{day_bias, day, year, BiasedYear}
-use Rattle.days.specs.ClosedYear.{year_length, year_most}
+use Rattle.days.proofs.ClosedYear.{year_length, year_most}
 use Rattle.days.specs.RisingSpans.{Stretch}
 use Rattle.days.specs.ClosedStarts.{Starts}
-use Rattle.days.specs.ClosedJulian as J
-use Rattle.days.specs.ClosedGregorian as G
-use Rattle.days.specs.ClosedNumbers.{There, number, days_before_value, few_before}
-use Rattle.days.specs.ReckoningSteps.{month_most}
-use Rattle.days.specs.AcceptedCalendars.{accepted_rises, skipped_nowhere}
-use Rattle.days.specs.ClosedRuns.{Runs, top, julian_runs, gregorian_runs, first_day_value, first_cases, first_julian, first_gregorian, julian_month_value, gregorian_month, month_first_value, month_past, year_stretch, month_stretch, on_old, on_new}
+use Rattle.days.proofs.ClosedJulian as J
+use Rattle.days.proofs.ClosedGregorian as G
+use Rattle.days.proofs.ClosedNumbers.{There, number, days_before_value, few_before}
+use Rattle.days.proofs.ReckoningSteps.{month_most}
+use Rattle.days.proofs.AcceptedCalendars.{accepted_rises, skipped_nowhere}
+use Rattle.days.proofs.ClosedRuns.{Runs, top, julian_runs, gregorian_runs, first_day_value, first_cases, first_julian, first_gregorian, julian_month_value, gregorian_month, month_first_value, month_past, year_stretch, month_stretch, on_old, on_new}
 use Rattle.inner.specs.Natural.{biased_year_value}
 use Rattle.calendar.specs.declared.Calendar.{Calendar}
 use Rattle.refusals.specs.declared.Refusal.{Refusal}

@@ -5,10 +5,10 @@ use Rattle.std.proofs.Common.{sym, ◌∙◌, ap, ap₂, subst}
 use Rattle.whole.specs.Biased.{unbias_injective}
 use Rattle.whole.specs.Integers.{antisym}
 use Rattle.days.specs.DayByDay.{Label, label, OfMonth, Rises, DayOrdinal}
-use Rattle.days.specs.RisingLabels.{once, place_one, nth_one, days_one}
+use Rattle.days.proofs.RisingLabels.{once, place_one, nth_one, days_one}
 use Rattle.days.specs.BiasedDays.{year_bias}
-use Rattle.days.specs.ClosedRuns.{runs_one}
-use Rattle.days.specs.AcceptedCalendars.{accepted_rises}
+use Rattle.days.proofs.ClosedRuns.{runs_one}
+use Rattle.days.proofs.AcceptedCalendars.{accepted_rises}
 use Rattle.switches.specs.declared.Spanned.TheVariants as Spanned'
 use Rattle.switches.specs.Promise.{month_span}
 use Rattle.calendar.specs.declared.Calendar.{Calendar}

@@ -10,14 +10,14 @@ use Rattle.whole.specs.Tests as N
 use Rattle.std.proofs.Math.Facts.{leb_yes}
 use Rattle.whole.specs.Integers.{lt_or_ge, lt_le, le_trans, antisym, back_le, back_lt, none_between}
 use Rattle.days.specs.DayByDay.{Label, label, by_month, Rises, month_length, Is32Bit, gregorian_accepted, Borne, OfMonth, Place, DayOrdinal, Days, YearLength, MonthLength, Month}
-use Rattle.days.specs.LabelOrder.{≺-month}
-use Rattle.days.specs.RisingLabels.{up_back, year_run, here, days_one, place_one, nth_within}
+use Rattle.days.proofs.LabelOrder.{≺-month}
+use Rattle.days.proofs.RisingLabels.{up_back, year_run, here, days_one, place_one, nth_within}
 use Rattle.days.specs.RisingSpans.{Proper}
-use Rattle.days.specs.AcceptedCalendars.{accepted_rises, labels_proper, skipped_nowhere}
-use Rattle.days.specs.ClosedGregorian as G
+use Rattle.days.proofs.AcceptedCalendars.{accepted_rises, labels_proper, skipped_nowhere}
+use Rattle.days.proofs.ClosedGregorian as G
 use Rattle.days.specs.BiasedDays.{BiasedYear}
 use Rattle.days.specs.ClosedNumbers.{There}
-use Rattle.days.specs.ClosedRuns.{gregorian_runs, on_new, day_ordinal_at}
+use Rattle.days.proofs.ClosedRuns.{gregorian_runs, on_new, day_ordinal_at}
 use Rattle.calendar.specs.declared.Calendar.{Calendar}
 use Rattle.calendar.specs.declared.Calendar.TheVariants.{Gregorian}
 use Rattle.calendar.specs.declared.Date.{Date}

@@ -7,8 +7,8 @@ use Rattle.std.proofs.Math.Facts.{and_yes}
 use Rattle.whole.specs.Integers.{unbias_le_down}
 use Rattle.days.specs.DayByDay.{AcceptedReformation, julian_accepted, gregorian_accepted, reforming_accepted}
 use Rattle.days.specs.BiasedDays.{day_bias}
-use Rattle.days.specs.RisingSpans.{biased_from}
-use Rattle.days.specs.ReformationTable.{accepts}
+use Rattle.days.proofs.RisingSpans.{biased_from}
+use Rattle.days.proofs.ReformationTable.{accepts}
 use Rattle.calendar.specs.Calendars.{Accepted}
 use Rattle.calendar.specs.Rows.{refuses, passes}
 use Rattle.calendar.specs.declared.Calendar.{Calendar}

@@ -11,10 +11,10 @@ use Rattle.whole.specs.Edge.{fits_between}
 use Rattle.refusals.specs.declared.Refusal.{Refusal}
 use Rattle.refusals.specs.Promise.{refusal}
 use Rattle.days.specs.DayByDay.{Label, label, Timeline, Is32Bit, SwitchDay, this, later, MissingIn, Month}
-use Rattle.days.specs.AcceptedCalendars.{accepted_rises, no_switch}
-use Rattle.days.specs.RisingLabels.{no_earlier_year, days_one}
-use Rattle.days.specs.AcceptedYears.{least_label, greatest_label}
-use Rattle.days.specs.KnownDays.{known_days}
+use Rattle.days.proofs.AcceptedCalendars.{accepted_rises, no_switch}
+use Rattle.days.proofs.RisingLabels.{no_earlier_year, days_one}
+use Rattle.days.proofs.AcceptedYears.{least_label, greatest_label}
+use Rattle.days.proofs.KnownDays.{known_days}
 use Rattle.calendar.specs.declared.Calendar.{Calendar}
 use Rattle.calendar.specs.declared.Calendar.TheVariants as Calendar'
 use Rattle.calendar.specs.declared.Date.{Date}

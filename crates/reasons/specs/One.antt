@@ -10,9 +10,9 @@ use Rattle.whole.specs.One.{whether_one}
 use Rattle.refusals.specs.declared.Refusal.{Refusal}
 use Rattle.refusals.specs.Promise.{refusal}
 use Rattle.days.specs.DayByDay.{Label, Timeline, labels_in, Rises, Rising, OfYear, YearLength, Place, Is32Bit}
-use Rattle.days.specs.RisingLabels.{once, days_one, nth_one, nth_within}
-use Rattle.days.specs.RisingTimelines.{rising_rises, skipped_in_nowhere, one_switch}
-use Rattle.days.specs.AcceptedYears.{accepted_rising}
+use Rattle.days.proofs.RisingLabels.{once, days_one, nth_one, nth_within}
+use Rattle.days.proofs.RisingTimelines.{rising_rises, skipped_in_nowhere, one_switch}
+use Rattle.days.proofs.AcceptedYears.{accepted_rising}
 use Rattle.calendar.specs.declared.Calendar.{Calendar}
 use Rattle.calendar.specs.declared.Date.{Date}
 use Rattle.calendar.specs.Calendars.{timeline, IsRecordIn}

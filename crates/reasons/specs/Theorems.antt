@@ -5,8 +5,8 @@
 use Rattle.std.specs.Prelude.{◌≡◌, refl, Bool, true, false, cond, List, ◌∷◌, ◌++◌, ℕ, suc, ◌+◌, ◌≤◌, eqb, length, ℤ}
 use Rattle.std.proofs.Common.{subst, arith, length-append}
 use Rattle.days.specs.DayByDay.{Timeline, Rising, Month}
-use Rattle.days.specs.RisingTimelines.{skipped_in_nowhere}
-use Rattle.days.specs.AcceptedYears.{accepted_rising}
+use Rattle.days.proofs.RisingTimelines.{skipped_in_nowhere}
+use Rattle.days.proofs.AcceptedYears.{accepted_rising}
 use Rattle.calendar.specs.declared.Calendar.{Calendar}
 use Rattle.calendar.specs.declared.Dated.{Dated}
 use Rattle.calendar.specs.declared.Dated.TheVariants as Dated'

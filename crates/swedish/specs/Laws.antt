@@ -9,16 +9,16 @@ use Rattle.refusals.specs.declared.Refusal.{Refusal}
 use Rattle.refusals.specs.Promise.{refusal}
 use Rattle.days.specs.DayByDay.{Label, label, Reckoning, label_of, month_length, Month, Swedish, labels, timeline, OfYear, Place, Ordinal, Missing}
 use Rattle.days.specs.BiasedDays.{day_bias, year_bias, day, year, BiasedYear}
-use Rattle.days.specs.RisingTimelines.{timeline_proper, timeline_most}
-use Rattle.days.specs.RisingPlaces.{year_falls}
-use Rattle.days.specs.ReckoningSteps.{month_some}
+use Rattle.days.proofs.RisingTimelines.{timeline_proper, timeline_most}
+use Rattle.days.proofs.RisingPlaces.{year_falls}
+use Rattle.days.proofs.ReckoningSteps.{month_some}
 use Rattle.days.specs.ClosedStarts.{Starts, InYear}
-use Rattle.days.specs.ClosedJulian as J
-use Rattle.days.specs.ClosedGregorian as G
-use Rattle.days.specs.ClosedNumbers.{number, numbered, days_before_value, within_year}
-use Rattle.days.specs.ClosedRuns.{top, julian_month_value, gregorian_month, gregorian_past, first_julian, first_gregorian}
-use Rattle.days.specs.Swedish.{swedish_rises}
-use Rattle.days.specs.SwedishMonths.{SwedishMonth, new_month, swedish_month, swedish_day, swedish_from, swedish_room, swedish_year, swedish_missing, swedish_skips, swedish_skips_only, SwedishGap, in_1700, in_1753}
+use Rattle.days.proofs.ClosedJulian as J
+use Rattle.days.proofs.ClosedGregorian as G
+use Rattle.days.proofs.ClosedNumbers.{number, numbered, days_before_value, within_year}
+use Rattle.days.proofs.ClosedRuns.{top, julian_month_value, gregorian_month, gregorian_past, first_julian, first_gregorian}
+use Rattle.days.proofs.Swedish.{swedish_rises}
+use Rattle.days.proofs.SwedishMonths.{SwedishMonth, new_month, swedish_month, swedish_day, swedish_from, swedish_room, swedish_year, swedish_missing, swedish_skips, swedish_skips_only, SwedishGap, in_1700, in_1753}
 use Rattle.switches.specs.declared.Spanned.TheVariants as Spanned'
 use Rattle.switches.specs.declared.Found.TheVariants as Found'
 use Rattle.switches.specs.declared.MonthSpan.{MonthSpan}

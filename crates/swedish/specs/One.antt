@@ -5,10 +5,10 @@ use Rattle.std.proofs.Common.{sym, ◌∙◌, ap, ap₂, subst, arith}
 use Rattle.whole.specs.Biased.{unbias_injective}
 use Rattle.days.specs.DayByDay.{Label, Month, Swedish, labels, Ordinal, swedish_accepted}
 use Rattle.days.specs.BiasedDays.{day_bias, year_bias, day}
-use Rattle.days.specs.RisingLabels.{once, place_one}
-use Rattle.days.specs.AcceptedCalendars.{skipped_nowhere}
-use Rattle.days.specs.Swedish.{swedish_rises}
-use Rattle.days.specs.SwedishMonths.{swedish_month, swedish_month_one, swedish_some, swedish_day}
+use Rattle.days.proofs.RisingLabels.{once, place_one}
+use Rattle.days.proofs.AcceptedCalendars.{skipped_nowhere}
+use Rattle.days.proofs.Swedish.{swedish_rises}
+use Rattle.days.proofs.SwedishMonths.{swedish_month, swedish_month_one, swedish_some, swedish_day}
 use Rattle.inner.specs.Natural.{biased_year_value}
 use Rattle.inner.specs.Spots.{spot}
 use Rattle.inner.specs.declared.Spot.{Spot}

@@ -6,7 +6,7 @@ use Rattle.whole.specs.Promise.{unbias}
 use Rattle.whole.specs.Integers.{unbias_le}
 use Rattle.days.specs.BiasedDays.{day_bias, day}
 use Rattle.days.specs.ReformationRules.{Outcome, accepted, Judged, TableRow, row_1, row_2, row_3, row_4, row_5}
-use Rattle.days.specs.ReformationTable.{fits_biased, table_holds}
+use Rattle.days.proofs.ReformationTable.{fits_biased, table_holds}
 use Rattle.inner.specs.Natural.{biased_day}
 use Rattle.inner.specs.Laws.{biased_day_lem, raised_day_biased}
 use Rattle.switches.specs.Promise.{Judges, accepts_biased, refuses_with_1, refuses_with_2}

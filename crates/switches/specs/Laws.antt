@@ -6,14 +6,14 @@ use Rattle.refusals.specs.Promise.{refusal}
 use Rattle.days.specs.DayByDay as D
 use Rattle.days.specs.DayByDay.{month_length, Month}
 use Rattle.days.specs.BiasedDays.{BiasedYear}
-use Rattle.days.specs.ClosedYear.{year_length, year_most}
+use Rattle.days.proofs.ClosedYear.{year_length, year_most}
 use Rattle.days.specs.ClosedStarts.{Starts}
-use Rattle.days.specs.ClosedJulian as J
-use Rattle.days.specs.ClosedGregorian as G
+use Rattle.days.proofs.ClosedJulian as J
+use Rattle.days.proofs.ClosedGregorian as G
 use Rattle.days.specs.ClosedNumbers.{There, days_before_value, ThereIn}
-use Rattle.days.specs.ReformationTable.{there_too}
-use Rattle.days.specs.ReckoningSteps.{month_some}
-use Rattle.days.specs.ClosedRuns.{top, year_first, first_day_value, first_julian, first_gregorian, first_cases, julian_month_value, gregorian_month, gregorian_past, day_before, month_over, month_first_value, month_past}
+use Rattle.days.proofs.ReformationTable.{there_too}
+use Rattle.days.proofs.ReckoningSteps.{month_some}
+use Rattle.days.proofs.ClosedRuns.{top, year_first, first_day_value, first_julian, first_gregorian, first_cases, julian_month_value, gregorian_month, gregorian_past, day_before, month_over, month_first_value, month_past}
 use Rattle.inner.specs.Natural.{biased_year_value}
 use Rattle.monthdays.specs.Promise.{OrdinalOf, ordinal, no_ordinal}
 use Rattle.monthdays.specs.One.{in_year_ordinal}

@@ -4,12 +4,12 @@ use Rattle.std.specs.Prelude.{◌≡◌, refl, Bool, ℕ, ◌+◌, ◌-◌, ◌�
 use Rattle.std.proofs.Common.{sym, ◌∙◌, ap, arith}
 use Rattle.whole.specs.Biased.{unbias_injective}
 use Rattle.days.specs.BiasedDays.{day_bias}
-use Rattle.days.specs.ClosedJulian as J
-use Rattle.days.specs.ClosedGregorian as G
+use Rattle.days.proofs.ClosedJulian as J
+use Rattle.days.proofs.ClosedGregorian as G
 use Rattle.days.specs.ClosedNumbers.{There, number}
 use Rattle.days.specs.ClosedRuns.{gregorian_month, ComesBefore, day_before, month_over}
 use Rattle.days.specs.ReformationRules.{Outcome, accepted, refused_1, refused_2, Judged}
-use Rattle.days.specs.ReformationTable.{judged_one}
+use Rattle.days.proofs.ReformationTable.{judged_one}
 use Rattle.inner.specs.Natural.{biased_year_value}
 use Rattle.switches.specs.declared.PlainYear.{PlainYear}
 use Rattle.switches.specs.declared.Spanned.{Spanned}

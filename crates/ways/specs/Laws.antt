@@ -7,7 +7,7 @@ use Rattle.std.proofs.Math.IntN.{suc_ℤ, pred_ℤ}
 use Rattle.whole.specs.Tests.{true_or_false, lt_or_ge}
 use Rattle.whole.specs.Promise.{unbias}
 use Rattle.days.specs.DayByDay.{Is32Bit}
-use Rattle.days.specs.ClosedEnds.{suc_is, pred_is, suc_far, pred_far, raised_fits}
+use Rattle.days.proofs.ClosedEnds.{suc_is, pred_is, suc_far, pred_far, raised_fits}
 use Rattle.ways.specs.declared.Kind.{Kind}
 use Rattle.ways.specs.declared.Kind.TheVariants.{Later, Earlier, AndLater, AndEarlier}
 use Rattle.ways.specs.declared.Step.TheVariants as Step'

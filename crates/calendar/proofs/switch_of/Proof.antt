@@ -5,7 +5,7 @@ use Prim.Native.Nat.{◌-◌}
 use lib.IntN.{ℤ}
 use borrow.Author.Rules.{rules, sfits_of}
 use mir.Facts.{to_z-of_z}
-use Rattle.days.specs.ClosedRuns.{julian_runs, gregorian_runs}
+use Rattle.days.proofs.ClosedRuns.{julian_runs, gregorian_runs}
 use Rattle.switches.specs.Promise.{Judges}
 use Rattle.calendar.specs.Laws.{switch_accepted, switch_refused}
 use Rattle.calendar.specs.Natural.{SwitchIs, switches_at}

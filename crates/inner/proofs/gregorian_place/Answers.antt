@@ -1,11 +1,11 @@
 -- `inner::gregorian_place` meets its promise.
 use Prim.Native.Nat.{ℕ, ◌+◌, ◌-◌, ◌/◌, ◌%◌, ◌<◌, ◌^◌}
 use native.Mathlib.Omega.{arith}
-use Rattle.days.specs.ClosedGregorian as G
+use Rattle.days.proofs.ClosedGregorian as G
 use Rattle.days.specs.BiasedDays.{BiasedYear}
 use Rattle.days.specs.ClosedStarts.{InYear}
-use Rattle.days.specs.ClosedCenturies.{days_in_common_year, days_in_century, days_in_cycle, first_cycle, WholeParts, year_after, by_the_rule}
-use Rattle.days.specs.ClosedRange.{gregorian_year}
+use Rattle.days.proofs.ClosedCenturies.{days_in_common_year, days_in_century, days_in_cycle, first_cycle, WholeParts, year_after, by_the_rule}
+use Rattle.days.proofs.ClosedRange.{gregorian_year}
 use Rattle.inner.specs.Natural.{biased_day}
 use Rattle.inner.specs.Laws.{raised_day_biased, spot_again}
 use Rattle.inner.proofs.gregorian_place.Goals as goal

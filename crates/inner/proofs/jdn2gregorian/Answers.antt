@@ -1,5 +1,5 @@
 -- `inner::jdn2gregorian` meets its promise.
-use Rattle.days.specs.ClosedRange.{gregorian_year}
+use Rattle.days.proofs.ClosedRange.{gregorian_year}
 use mathlib.Core.Path.{◌∙◌, sym}
 use mir.Syntax.{w32}
 use mir.Facts.{to_z-of_z}

@@ -1,8 +1,8 @@
 -- `inner::julian_place` meets its promise: the year of a 32-bit day has 32 bits.
 use native.Mathlib.Omega.{arith}
-use Rattle.days.specs.ClosedJulian as J
-use Rattle.days.specs.ClosedRange.{julian_year}
-use Rattle.days.specs.ClosedYear.{year_most}
+use Rattle.days.proofs.ClosedJulian as J
+use Rattle.days.proofs.ClosedRange.{julian_year}
+use Rattle.days.proofs.ClosedYear.{year_most}
 use Rattle.inner.specs.Laws.{raised_day_biased, spot_again}
 use Rattle.inner.proofs.julian_place.Goals as goal
 

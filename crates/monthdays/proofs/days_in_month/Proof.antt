@@ -3,7 +3,7 @@
 use native.Mathlib.Omega.{arith}
 use mathlib.Core.Path.{sym, ◌∙◌, ap}
 use mathlib.Core.Bool.{Bool, cond}
-use Rattle.days.specs.ClosedMonths.{february, short, long, no_month}
+use Rattle.days.proofs.ClosedMonths.{february, short, long, no_month}
 use Rattle.monthdays.proofs.days_in_month.Statement.{statement}
 use Rattle.monthdays.proofs.days_in_month.Tie as tie
 

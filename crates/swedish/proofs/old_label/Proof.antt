@@ -1,7 +1,7 @@
 -- `swedish::old_label` meets its promise.
 -- Assumes nothing.
 use borrow.Author.Rules.{rules}
-use Rattle.days.specs.ClosedJulian as J
+use Rattle.days.proofs.ClosedJulian as J
 use Rattle.inner.specs.Natural.{biased_day}
 use Rattle.swedish.specs.Laws.{labelled_by}
 use Rattle.swedish.proofs.old_label.Statement.{statement}

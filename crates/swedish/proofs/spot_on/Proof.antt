@@ -6,8 +6,8 @@ use native.Mathlib.Omega.{arith}
 use borrow.Author.Rules.{rules}
 use Rattle.days.specs.DayByDay.{Swedish, labels, label_of, julian, Ordinal}
 use Rattle.days.specs.BiasedDays.{day}
-use Rattle.days.specs.ClosedGregorian as G
-use Rattle.days.specs.SwedishMonths.{in_first, in_moved, in_leapt, in_again, in_reformed, ordinal_of_the_thirtieth}
+use Rattle.days.proofs.ClosedGregorian as G
+use Rattle.days.proofs.SwedishMonths.{in_first, in_moved, in_leapt, in_again, in_reformed, ordinal_of_the_thirtieth}
 use Rattle.inner.specs.Natural.{biased_day}
 use Rattle.swedish.specs.Laws.{labelled_by}
 use Rattle.swedish.proofs.spot_on.Statement.{statement}

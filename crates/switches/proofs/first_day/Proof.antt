@@ -2,7 +2,7 @@
 -- Assumes nothing.
 use mathlib.Core.Path.{sym}
 use Prim.Native.Nat.{◌-◌}
-use Rattle.days.specs.ClosedRuns.{first_julian, first_reform, first_gregorian}
+use Rattle.days.proofs.ClosedRuns.{first_julian, first_reform, first_gregorian}
 use Rattle.switches.proofs.first_day.Statement.{statement}
 use Rattle.switches.proofs.first_day.Tie as tie
 

@@ -3,8 +3,8 @@
 use Prim.Native.Nat.{◌-◌}
 use native.Mathlib.Omega.{arith}
 use borrow.Author.Rules.{rules}
-use Rattle.days.specs.ClosedGregorian as G
-use Rattle.days.specs.ClosedJulian as J
+use Rattle.days.proofs.ClosedGregorian as G
+use Rattle.days.proofs.ClosedJulian as J
 use Rattle.inner.specs.Natural.{biased_year_value}
 use Rattle.switches.specs.Laws.{plain_first, plain_past, month_span_is}
 use Rattle.switches.specs.Promise.{no_month}

@@ -6,7 +6,7 @@ use borrow.Author.Rules.{rules, sfits_of}
 use lib.IntN.{suc_ℤ, pred_ℤ}
 use mir.Facts.{to_z-of_z}
 use Rattle.whole.specs.Promise.{unbias}
-use Rattle.days.specs.ClosedEnds.{suc_is, pred_is}
+use Rattle.days.proofs.ClosedEnds.{suc_is, pred_is}
 use Rattle.ways.specs.Promise.{toward}
 use Rattle.ways.specs.Laws.{toward_later, toward_earlier, room_up, room_down}
 use Rattle.ways.proofs.ahead.Statement.{statement}

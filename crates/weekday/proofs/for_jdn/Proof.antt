@@ -5,7 +5,7 @@ use Prim.Native.Nat.{◌-◌}
 use borrow.Author.Rules.{rules}
 use mir.Facts.{to_z-of_z}
 use Rattle.days.specs.DayByDay.{weekday}
-use Rattle.days.specs.ClosedWeekdays.{weekday_is}
+use Rattle.days.proofs.ClosedWeekdays.{weekday_is}
 use Rattle.weekday.proofs.for_jdn.Statement.{statement}
 use Rattle.weekday.proofs.for_jdn.Tie as tie
 

@@ -5,7 +5,7 @@ use Prim.Native.Nat.{ℕ, ◌-◌}
 use borrow.Author.Rules.{rules}
 use mir.Facts.{to_z-of_z}
 use Rattle.days.specs.BiasedDays.{day}
-use Rattle.days.specs.ClosedRange.{julian_year, gregorian_year}
+use Rattle.days.proofs.ClosedRange.{julian_year, gregorian_year}
 use Rattle.inner.specs.Laws.{biased_day_lem, raised_day_biased}
 use Rattle.inner.specs.Natural.{biased_day}
 use Rattle.calendar.specs.Laws.{spot_old, spot_new}

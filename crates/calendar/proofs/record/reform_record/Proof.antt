@@ -5,7 +5,7 @@ use Prim.Native.Nat.{ℕ, ◌+◌, ◌-◌}
 use native.Mathlib.Omega.{arith}
 use borrow.Author.Rules.{rules, sfits_of}
 use mir.Facts.{to_z-of_z}
-use Rattle.days.specs.ClosedJulian as J
+use Rattle.days.proofs.ClosedJulian as J
 use Rattle.days.specs.ClosedRuns.{first_day_value, julian_month_value}
 use Rattle.inner.specs.Laws.{biased_year}
 use Rattle.inner.specs.Natural.{biased_year_value}

@@ -2,11 +2,11 @@
 -- Assumes nothing.
 use Rattle.std.specs.Prelude.{◌≡◌, ℕ, ◌+◌, ◌-◌, ◌*◌, ◌/◌, ◌≤◌, ◌<◌}
 use Rattle.std.proofs.Common.{le_trans, arith}
-use Rattle.days.specs.ClosedYear.{year_most}
-use Rattle.days.specs.ClosedStarts.{InYear}
+use Rattle.days.proofs.ClosedYear.{year_most}
+use Rattle.days.proofs.ClosedStarts.{InYear}
 use Rattle.days.specs.BiasedDays.{BiasedDay, BiasedYear}
-use Rattle.days.specs.ClosedJulian as J
-use Rattle.days.specs.ClosedGregorian as G
+use Rattle.days.proofs.ClosedJulian as J
+use Rattle.days.proofs.ClosedGregorian as G
 
 -- the year of a day of 32 bits has 32 bits
 in_range_lem : (y a o k : ℕ) → 365 * y ≤ a → a ≤ 366 * y + 16_106_533 → 1 ≤ o → o ≤ 366 → a + o ≡ k + 1 → 782_219_326_294 ≤ k → k < 786_514_293_590 → BiasedYear y

@@ -8,9 +8,9 @@ use Rattle.std.specs.Int.Signed.{<ℤ_irrefl}
 use Rattle.whole.specs.Integers.{lt_or_ge, lt_le, antisym, back_lt, back_le}
 use Rattle.whole.specs.Tests as N
 use Rattle.days.specs.DayByDay.{Label, ◌≺◌, by_year, by_month, by_day, Timeline, labels_in, Rising, Rises, OfMonth, Place, Ordinal, DayOrdinal}
-use Rattle.days.specs.RisingLabels.{Run, year_run, month_run, no_earlier_year}
-use Rattle.days.specs.RisingSpans.{Proper}
-use Rattle.days.specs.RisingTimelines.{rising_rises, timeline_proper, timeline_most}
+use Rattle.days.proofs.RisingLabels.{Run, year_run, month_run, no_earlier_year}
+use Rattle.days.proofs.RisingSpans.{Proper}
+use Rattle.days.proofs.RisingTimelines.{rising_rises, timeline_proper, timeline_most}
 
 -- ---- The labels of a year are few: an earlier one has less of 32 times the month and the day
 height : Label → ℕ

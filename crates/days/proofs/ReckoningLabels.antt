@@ -1,16 +1,16 @@
 -- The two reckonings: the label of each next day is the next label, their labels rise, and are of a month 1 to 12 and a day 1 to 31.
 -- Assumes nothing.
-use Rattle.std.specs.Prelude.{◌≡◌, refl, ◌⊎◌, ℕ, zero, suc, ◌≤◌, ℤ, pos, ◌+ℤ◌}
+use Rattle.std.specs.Prelude.{◌≡◌, refl, ℕ, zero, suc, ◌≤◌, ℤ, pos, ◌+ℤ◌}
 use Rattle.std.proofs.Common.{sym, ◌∙◌, ap, subst, ⊎_elim, arith}
 use Rattle.std.proofs.Math.IntN.{suc_ℤ}
 use Rattle.whole.specs.Tests as N
 use Rattle.whole.specs.Integers.{lt_suc, steps}
 use Rattle.days.specs.DayByDay.{Label, LeapRule, Reckoning, month_length, next_label, label_of, julian, gregorian, julian_leap, gregorian_leap, ◌≺◌, by_year, by_month, by_day, Rises}
-use Rattle.days.specs.ReckoningSteps.{Valid, next_day, next_month_lem, next_year, after, label_suc, label_after, label_valid, month_most}
-use Rattle.days.specs.LabelOrder.{≺-trans}
-use Rattle.days.specs.RisingSpans.{Proper}
-use Rattle.days.specs.ClosedJulian as J
-use Rattle.days.specs.ClosedGregorian as G
+use Rattle.days.proofs.ReckoningSteps.{Valid, next_day, next_month_lem, next_year, after, label_suc, label_after, label_valid, month_most}
+use Rattle.days.proofs.LabelOrder.{≺-trans}
+use Rattle.days.proofs.RisingSpans.{Proper}
+use Rattle.days.proofs.ClosedJulian as J
+use Rattle.days.proofs.ClosedGregorian as G
 
 -- ---- the label of n + 1 is the next label of n's label, for every whole number n
 pub julian_next : (n : ℤ) → label_of julian (suc_ℤ n) ≡ next_label julian_leap (label_of julian n)

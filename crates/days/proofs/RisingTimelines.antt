@@ -10,10 +10,10 @@ use Rattle.std.proofs.Math.IntN.{suc_ℤ, +ℤ_idr, +ℤ-suc_ℤ, suc_ℤ-+ℤ, 
 use Rattle.std.specs.Int.Signed.{lt_z, clash_ℤ}
 use Rattle.whole.specs.Integers.{lt_or_ge, lt_suc, lt_trans, suc_le, antisym, steps, back_one}
 use Rattle.days.specs.DayByDay.{Label, label, label_of, julian, gregorian, ◌≺◌, splice, Counts, JulianBy, GregorianBy, Thirtieth, moved, counted, Era, Switch, Timeline, era_from, era, labels_in, style_in, SwitchDay, this, later, SkippedIn, Rising, Rises, Borne}
-use Rattle.days.specs.LabelOrder.{≺-trans}
-use Rattle.days.specs.RisingLabels.{up_back, between_nowhere}
-use Rattle.days.specs.RisingSpans.{Proper}
-use Rattle.days.specs.ReckoningLabels.{julian_rises, gregorian_rises, julian_proper, gregorian_proper, julian_most, gregorian_most}
+use Rattle.days.proofs.LabelOrder.{≺-trans}
+use Rattle.days.proofs.RisingLabels.{up_back, between_nowhere}
+use Rattle.days.proofs.RisingSpans.{Proper}
+use Rattle.days.proofs.ReckoningLabels.{julian_rises, gregorian_rises, julian_proper, gregorian_proper, julian_most, gregorian_most}
 
 -- ---- The era of a day: below the first switch, and from it on
 module _ {A : Type 0} (d : ℤ) (f g : ℤ → A) {n : ℤ} where

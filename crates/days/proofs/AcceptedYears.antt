@@ -7,10 +7,10 @@ use Rattle.std.specs.Int.Signed.{le_z_yes}
 use Rattle.whole.specs.Edge.{fits_from, fits_to, fits_between}
 use Rattle.whole.specs.Integers.{le_trans, back_lt}
 use Rattle.days.specs.DayByDay.{Label, Calendar, Julian, Gregorian, Reforming, Swedish, timeline, labels, Accepted, julian_accepted, gregorian_accepted, reforming_accepted, swedish_accepted, Is32Bit, InOrder, Rising}
-use Rattle.days.specs.RisingLabels.{no_earlier_year}
-use Rattle.days.specs.Swedish.{swedish_least, swedish_greatest, swedish_in_order}
-use Rattle.days.specs.AcceptedCalendars.{EitherLabel, reforming_either, accepted_one_day, accepted_rises}
-use Rattle.days.specs.KnownDays.{known_days}
+use Rattle.days.proofs.RisingLabels.{no_earlier_year}
+use Rattle.days.proofs.Swedish.{swedish_least, swedish_greatest, swedish_in_order}
+use Rattle.days.proofs.AcceptedCalendars.{EitherLabel, reforming_either, accepted_one_day, accepted_rises}
+use Rattle.days.proofs.KnownDays.{known_days}
 
 -- the first and the last of them have their Julian or their Gregorian label
 pub least_label : (c : Calendar) → EitherLabel c (negsuc 2_147_483_647)

@@ -1,6 +1,6 @@
 -- Whether d divides y − bias is whether it divides y, where d divides the bias.
 -- Assumes nothing.
-use Rattle.std.specs.Prelude.{◌≡◌, ◌⊎◌, ℕ, ◌-◌, ◌<◌, ◌≤◌, ◌%◌, eqb}
+use Rattle.std.specs.Prelude.{◌≡◌, ℕ, ◌-◌, ◌<◌, ◌≤◌, ◌%◌, eqb}
 use Rattle.std.proofs.Common.{sym, ◌∙◌, ap, ⊎_elim, arith, eq-eqb, ne_eqb}
 use Rattle.days.specs.DayByDay.{divides}
 use Rattle.whole.specs.Tests.{lt_or_ge, eq_or_not}

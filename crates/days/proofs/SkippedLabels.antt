@@ -6,13 +6,13 @@ use Rattle.std.proofs.Common.{sym, ◌∙◌, ap, subst, ⊎_elim, arith, lit≤
 use Rattle.std.proofs.Math.IntN.{suc_ℤ, pred_ℤ, suc-pred}
 use Rattle.whole.specs.Tests.{lt_or_ge}
 use Rattle.days.specs.DayByDay.{Label, label, month_length, divides, next_label, prev_label, label_of, julian, julian_leap, gregorian, gregorian_leap, Borne, Skippable}
-use Rattle.days.specs.ReckoningSteps.{Valid, next_day, prev_day, prev_month, prev_year, next_valid, prev_valid, next_prev, prev_next, stepping_good, label_valid, month_some}
-use Rattle.days.specs.ReckoningLabels.{julian_next}
-use Rattle.days.specs.ClosedMonths.{twelve}
-use Rattle.days.specs.ClosedJulian as J
-use Rattle.days.specs.ClosedGregorian as G
-use Rattle.days.specs.ClosedNumbers.{numbered, next_is}
-use Rattle.days.specs.ReformationTable.{no_shorter}
+use Rattle.days.proofs.ReckoningSteps.{Valid, next_day, prev_day, prev_month, prev_year, next_valid, prev_valid, next_prev, prev_next, stepping_good, label_valid, month_some}
+use Rattle.days.proofs.ReckoningLabels.{julian_next}
+use Rattle.days.proofs.ClosedMonths.{twelve}
+use Rattle.days.proofs.ClosedJulian as J
+use Rattle.days.proofs.ClosedGregorian as G
+use Rattle.days.proofs.ClosedNumbers.{numbered, next_is}
+use Rattle.days.proofs.ReformationTable.{no_shorter}
 
 -- ---- A month of the Julian calendar has the days of the Gregorian one, and at most one more
 one_longer : (b c : Bool) (m : ℕ) → 1 ≤ m → m ≤ 12 → month_length b m ≤ suc (month_length (b && c) m)

@@ -1,25 +1,25 @@
 -- The table of reformations holds: for every 32-bit r, each row says what the three conditions say. A Gregorian label is a Julian one too,
 -- on a day that never comes nearer: so where the Gregorian label is later than the Julian one, it stays so.
 -- Assumes nothing.
-use Rattle.std.specs.Prelude.{◌≡◌, refl, Bool, true, false, not, ◌&&◌, ◌⊎◌, ℕ, zero, suc, ◌+◌, ◌-◌, ◌<◌, ◌≤◌, ◌%◌, eqb, ℤ, pos, ◌-ℤ◌, ◌≤ℤ◌}
+use Rattle.std.specs.Prelude.{◌≡◌, refl, Bool, true, false, not, ◌&&◌, ℕ, zero, suc, ◌+◌, ◌-◌, ◌<◌, ◌≤◌, ◌%◌, eqb, ℤ, pos, ◌-ℤ◌, ◌≤ℤ◌}
 use Rattle.std.proofs.Common.{sym, ◌∙◌, ap, subst, subst₂, ⊎_elim, arith, zero-add, suc-add, le_trans, lit≤, SFits}
 use Rattle.std.specs.Int.{w32}
 use Rattle.whole.specs.Tests as N
 use Rattle.whole.specs.Biased.{unbias_back}
 use Rattle.whole.specs.Edge.{fits_from, unbias_fits, unbias_fits_only}
-use Rattle.whole.specs.Integers.{lt_or_ge, eq_le, unbias_up, unbias_down, unbias_le, unbias_le_down}
+use Rattle.whole.specs.Integers.{eq_le, unbias_up, unbias_down, unbias_le, unbias_le_down}
 use Rattle.days.specs.DayByDay.{Label, label, label_of, julian, gregorian, month_length, ◌≺◌, by_month, Is32Bit, JulianDayFits, AcceptedReformation}
 use Rattle.days.specs.ReformationRules.{Outcome, accepted, refused_1, refused_2, Judged, no_day_before, no_julian_day, not_later, all_three, TableRow, row_1, row_2, row_3, row_4, row_5}
-use Rattle.days.specs.LabelOrder.{≺-irrefl, ≺-trans, ≺-year}
-use Rattle.days.specs.RisingLabels.{up_back}
-use Rattle.days.specs.RisingSpans.{biased_from}
+use Rattle.days.proofs.LabelOrder.{≺-irrefl, ≺-trans, ≺-year}
+use Rattle.days.proofs.RisingLabels.{up_back}
+use Rattle.days.proofs.RisingSpans.{biased_from}
 use Rattle.days.specs.BiasedDays.{day_bias, year_bias, day, year, BiasedDay}
-use Rattle.days.specs.ClosedMonths.{twelve}
-use Rattle.days.specs.ClosedStarts.{start_right}
-use Rattle.days.specs.ClosedJulian as J
-use Rattle.days.specs.ClosedGregorian as G
-use Rattle.days.specs.ClosedNumbers.{There, number, numbered, there}
-use Rattle.days.specs.ReckoningLabels.{julian_rises, gregorian_rises}
+use Rattle.days.proofs.ClosedMonths.{twelve}
+use Rattle.days.proofs.ClosedStarts.{start_right}
+use Rattle.days.proofs.ClosedJulian as J
+use Rattle.days.proofs.ClosedGregorian as G
+use Rattle.days.proofs.ClosedNumbers.{There, number, numbered, there}
+use Rattle.days.proofs.ReckoningLabels.{julian_rises, gregorian_rises}
 
 -- ---- the Julian day of a Gregorian label
 
