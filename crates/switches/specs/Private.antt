@@ -2,7 +2,7 @@
 -- Assumes nothing.
 use Rattle.std.specs.Prelude.{◌≡◌, Bool, ℕ, ◌+◌, ◌-◌, ◌<◌}
 use Rattle.days.specs.DayByDay.{month_length}
-use Rattle.days.proofs.ClosedJulian as J
+use Rattle.days.specs.ClosedJulian as J
 use Rattle.days.specs.ClosedNumbers.{ThereIn, There, days_before_value}
 use Rattle.inner.specs.Natural.{biased_year_value}
 use Rattle.inner.specs.Spots.{At, spot}

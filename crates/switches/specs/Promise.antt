@@ -4,8 +4,8 @@ use Rattle.std.specs.Prelude.{◌≡◌, ℕ, ◌+◌, ◌≤◌, ◌<◌, ltb, 
 use Rattle.refusals.specs.Promise.{refusal}
 use Rattle.days.specs.DayByDay.{Month}
 use Rattle.days.specs.BiasedDays.{day}
-use Rattle.days.proofs.ClosedJulian as J
-use Rattle.days.proofs.ClosedGregorian as G
+use Rattle.days.specs.ClosedJulian as J
+use Rattle.days.specs.ClosedGregorian as G
 use Rattle.days.specs.ClosedNumbers.{There, number}
 use Rattle.days.specs.ClosedRuns.{top, year_first, gregorian_month, gregorian_past, ComesBefore, month_first_value, month_past}
 use Rattle.days.specs.ReformationRules.{accepted, refused_1, refused_2, Judged}
