@@ -1,5 +1,4 @@
 -- What the proofs need: of a buffer, of the digits of a number, and from both to the promises.
--- Assumes nothing.
 use Rattle.std.specs.Prelude.{ℕ, suc, ◌+◌, ◌-◌, ◌≤◌, ◌<◌, zero, ◌*◌, ◌/◌, ◌%◌, ◌^◌, ◌≡◌, refl, false, Bool, true, List, [], ◌∷◌, ◌++◌, length, get_or, take, drop, set, leb, ℤ, pos, negsuc, nat_abs}
 use Rattle.std.proofs.Common.{sym, ◌∙◌, ap, ap₂, subst, append_assoc, ⊎_elim, add-zero, pow-suc, mod-lt, div-add-mod', div-lt_iff_lt-mul, le-div_iff_mul-le, mul-le-mul_right, mul_assoc, mul_comm, one-mul, arith, length-set, length-append, length-take, length-drop, take-append-drop, drop-set-lt, drop-cons, get_or-set_same, take_at, take-suc, take_all, drop-drop, length-take-le, le-leb, leb-true, leb-false}
 use Rattle.std.proofs.Math.Nat.{pow-zero, pow-le-pow_right}

@@ -1,5 +1,4 @@
 -- Two results that a promise allows are one: a theorem for each promise.
--- Assumes nothing.
 use Rattle.std.specs.Prelude.{ℕ, suc, ◌+◌, ◌-◌, ◌*◌, ◌≤◌, ◌<◌, ◌≡◌, refl, List, ◌∷◌, ◌++◌, length, get_or, false, Bool, true, ℤ}
 use Rattle.std.proofs.Common.{sym, ◌∙◌, ap, ap₂, subst, ⊎_elim, arith}
 use Rattle.whole.specs.Tests.{lt_or_ge}

@@ -1,6 +1,5 @@
 -- What is promised: a text put into a lent buffer and what a copier says of it; how a number is written, and how many digits it has; numbers and dates
 -- with no padding and a `-` before a negative number, at an offset of a buffer, and what a writer says of them.
--- Assumes nothing.
 use Rattle.std.specs.Prelude.{ℕ, ◌+◌, ◌≤◌, ◌<◌, zero, suc, ◌/◌, ◌%◌, ◌^◌, List, ◌++◌, [], ◌∷◌, length, take, drop, get_or, ◌≡◌, ℤ, pos, negsuc, Bool, true, false}
 use Rattle.writer.specs.declared.buffer.Copied.{Copied}
 use Rattle.digits.specs.Numerals.{Numeral, dash}

@@ -1,5 +1,4 @@
 -- THE THEOREMS ON WRITTEN TEXTS: where a date's text stands, and how long it is at most.
--- Assumes nothing.
 use Rattle.std.specs.Prelude.{ℕ, ◌+◌, ◌≤◌, ◌<◌, ◌^◌, ◌≡◌, List, ◌∷◌, ◌++◌, length, take, drop, ℤ, nat_abs}
 use Rattle.std.proofs.Common.{sym, ◌∙◌, ap, subst, zero-add, arith, length-append}
 use Rattle.std.proofs.Math.Seq.{take-append_seam}
