@@ -3,7 +3,7 @@
 use Rattle.std.specs.Prelude.{ℕ, zero, suc, ◌≤◌, ◌<◌, ◌≡◌, refl, Bool, true, false, List, length, ℤ, pos, negsuc}
 use Rattle.std.proofs.Common.{sym, ◌∙◌, ap, subst, true≢false, zero-add, arith, ltb-true}
 use Rattle.std.specs.Int.Signed.{lt_z}
-use Rattle.io.specs.Counts.{clamp_len}
+use Rattle.filter.specs.Counts.{clamp_len}
 use Rattle.writer.specs.Promise.{put, Copies}
 use Rattle.writer.specs.declared.buffer.Copied.{Copied}
 use Rattle.filter.specs.declared.Phase.{Phase}

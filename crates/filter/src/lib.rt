@@ -4,7 +4,8 @@
 
 #![tactic(auto)]
 
-ghost use Rattle.std.specs.Prelude.{◌≡◌, take};
+ghost use Rattle.std.specs.Prelude.{◌≡◌, min, length, take};
+ghost use Rattle.filter.specs.Counts.{clamp_len};
 ghost use Rattle.filter.specs.Promise.{goes_on_value, output_of, room_of, arrived_of, event_of, state_with_value, PutsMessage};
 
 use writer::buffer;
@@ -145,11 +146,30 @@ pub fn arrived(got: isize, block: &[u8; BLOCK_SIZE]) -> Event
     if got < 0 {
         return Event::Unread;
     }
-    let count = io::count(got, block);
+    let count = byte_count(got, block);
     if count < 1 {
         return Event::InputEnds;
     }
     Event::Block(0, count)
+}
+
+// What a read answered as a number of the block's bytes: 0 where it is negative, and at most all of them.
+fn byte_count(got: isize, block: &[u8]) -> usize
+    ensures { result ≡ clamp_len got (length block.now) }
+{
+    if 0 < got {
+        return shorter(got as usize, block.len());
+    }
+    0
+}
+
+fn shorter(a: usize, b: usize) -> usize
+    ensures { result ≡ min a b }
+{
+    if a < b {
+        return a;
+    }
+    b
 }
 
 // The message is put into the output, and the program ends once it is written.
