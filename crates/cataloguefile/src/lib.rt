@@ -8,30 +8,40 @@ use catalogue::{Links, Names};
 use cataloguerun::CatalogueRun;
 pub use cataloguerun::LONGEST_READ;
 use filter::{BLOCK_SIZE, State};
+use std::env::Env;
+use std::fs::File;
+use std::io;
+use std::io::ErrorKind;
 
 // The longest path that can be opened.
 const PATH_SIZE: usize = 4096;
 
-// Without an argument the path is empty, and no file has that name.
-fn open_catalogue() -> i32 {
+// Without an argument the path is empty, and no file has that name. A path that is no text cannot be opened.
+fn open_catalogue(rt: &HostRuntime) -> io::Result<File> {
     let mut path = [0u8; PATH_SIZE];
-    let size = os::arg(1, &mut path);
-    os::open_read(filter::front(&path, size))
+    match rt.arg(1, &mut path) {
+        Ok(size) => match str::from_utf8(filter::front(&path, size)) {
+            Ok(path) => File::open(rt, path),
+            Err(_) => Err(io::Error::from(ErrorKind::InvalidFilename)),
+        },
+        Err(_) => File::open(rt, ""),
+    }
 }
 
-fn read_catalogue(
+fn read_file(
+    file: File,
     names: &mut Names,
     links: &mut Links,
     block: &mut [u8; BLOCK_SIZE],
     line: &mut [u8; LONGEST_READ],
 ) -> CatalogueRun {
-    let file = open_catalogue();
-    let mut run = cataloguerun::start(file, os::errno() == libc::ENOENT);
+    let mut file = file;
+    let mut run = cataloguerun::start(0, false);
     // The number of turns only bounds the loop: no catalogue is so long.
     let mut turns = u64::MAX;
     while 0 < turns {
         if cataloguerun::reads_on(run) {
-            let got = libc::read(file, block);
+            let got = streams::read_some(&mut file, block);
             run = cataloguerun::go_on(run, got, block, names, links, line);
         } else {
             return run;
@@ -41,20 +51,38 @@ fn read_catalogue(
     run
 }
 
+fn read_catalogue(
+    rt: &HostRuntime,
+    names: &mut Names,
+    links: &mut Links,
+    block: &mut [u8; BLOCK_SIZE],
+    line: &mut [u8; LONGEST_READ],
+) -> CatalogueRun {
+    match open_catalogue(rt) {
+        Ok(file) => read_file(file, names, links, block, line),
+        Err(why) => cataloguerun::start(-1, why.kind() == ErrorKind::NotFound),
+    }
+}
+
 // What is said of it, where something is.
-fn tell(message: State, out: &[u8; BLOCK_SIZE]) {
-    io::write_all(filter::output(message), filter::front(out, message.used));
+fn tell(rt: &HostRuntime, message: State, out: &[u8; BLOCK_SIZE]) {
+    streams::write(
+        rt,
+        filter::output(message),
+        filter::front(out, message.used),
+    );
 }
 
 // What the catalogue came to. Its names stand in the memory that is lent for them; the buffers hold nothing that matters.
 pub fn read(
+    rt: &HostRuntime,
     names: &mut Names,
     links: &mut Links,
     block: &mut [u8; BLOCK_SIZE],
     line: &mut [u8; LONGEST_READ],
     out: &mut [u8; BLOCK_SIZE],
 ) -> CatalogueRun {
-    let run = read_catalogue(names, links, block, line);
-    tell(cataloguerun::complain(run, out), out);
+    let run = read_catalogue(rt, names, links, block, line);
+    tell(rt, cataloguerun::complain(run, out), out);
     run
 }
