@@ -9,13 +9,14 @@ use catalogue::{LINK_COUNT, Links, NAME_BYTES, Names};
 use explainrun::LONGEST_READ;
 use filter::{BLOCK_SIZE, State};
 
-fn read_some(block: &mut [u8], room: usize) -> isize
+fn read_some(rt: &HostRuntime, block: &mut [u8], room: usize) -> isize
     requires { room ≤ length block.old }
 {
-    libc::read(0, &mut block[..room])
+    streams::read_some(&mut rt.stdin(), &mut block[..room])
 }
 
 fn turn(
+    rt: &HostRuntime,
     names: &Names,
     links: &Links,
     state: State,
@@ -23,24 +24,26 @@ fn turn(
     line: &mut [u8; LONGEST_READ],
     out: &mut [u8; BLOCK_SIZE],
 ) -> State {
-    let written = io::write_all(filter::output(state), filter::front(out, state.used));
-    let got = read_some(block, filter::room(state, written));
+    let written = streams::write(rt, filter::output(state), filter::front(out, state.used));
+    let got = read_some(rt, block, filter::room(state, written));
     explainrun::go_on(names, links, state, written, got, block, line, out)
 }
 
-fn main() {
+fn main(rt: HostRuntime) {
     let mut names = [0u8; NAME_BYTES];
     let mut links = [0u32; LINK_COUNT];
-    let mut block = io::large_buffer();
+    let mut block = [0u8; BLOCK_SIZE];
     let mut line = [0u8; LONGEST_READ];
-    let mut out = io::large_buffer();
-    let catalogue = cataloguefile::read(&mut names, &mut links, &mut block, &mut line, &mut out);
+    let mut out = [0u8; BLOCK_SIZE];
+    let catalogue = cataloguefile::read(
+        &rt, &mut names, &mut links, &mut block, &mut line, &mut out,
+    );
     let mut state = explainrun::start(catalogue);
     // The number of turns only bounds the loop: no input is so long.
     let mut turns = u64::MAX;
     while 0 < turns {
         if filter::goes_on(state) {
-            state = turn(&names, &links, state, &mut block, &mut line, &mut out);
+            state = turn(&rt, &names, &links, state, &mut block, &mut line, &mut out);
         } else {
             return;
         }
