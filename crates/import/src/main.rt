@@ -9,13 +9,14 @@ use catalogue::{LINK_COUNT, Links, NAME_BYTES, Names};
 use filter::BLOCK_SIZE;
 use importrun::{ImportRun, LONGEST_RECORD};
 
-fn read_after(block: &mut [u8], kept: usize, room: usize) -> isize
+fn read_after(rt: &HostRuntime, block: &mut [u8], kept: usize, room: usize) -> isize
     requires { kept + room ≤ length block.old }
 {
-    libc::read(0, &mut block[kept..kept + room])
+    streams::read_some(&mut rt.stdin(), &mut block[kept..kept + room])
 }
 
 fn turn(
+    rt: &HostRuntime,
     names: &Names,
     links: &Links,
     run: ImportRun,
@@ -24,25 +25,32 @@ fn turn(
     out: &mut [u8; BLOCK_SIZE],
 ) -> ImportRun {
     let state = run.state;
-    let written = io::write_all(filter::output(state), filter::front(out, state.used));
-    let got = read_after(block, importrun::kept(run), importrun::room(run, written));
+    let written = streams::write(rt, filter::output(state), filter::front(out, state.used));
+    let got = read_after(
+        rt,
+        block,
+        importrun::kept(run),
+        importrun::room(run, written),
+    );
     importrun::go_on(names, links, run, written, got, block, line, out)
 }
 
-fn main() {
+fn main(rt: HostRuntime) {
     let mut names = [0u8; NAME_BYTES];
     let mut links = [0u32; LINK_COUNT];
-    let mut block = io::large_buffer();
+    let mut block = [0u8; BLOCK_SIZE];
     let mut line = [0u8; LONGEST_RECORD];
-    let mut out = io::large_buffer();
-    let catalogue = cataloguefile::read(&mut names, &mut links, &mut block, &mut line, &mut out);
+    let mut out = [0u8; BLOCK_SIZE];
+    let catalogue = cataloguefile::read(
+        &rt, &mut names, &mut links, &mut block, &mut line, &mut out,
+    );
     let mut run = importrun::start(catalogue, &mut out);
     // The number of turns only bounds the loop: no input is so long.
     let mut turns = u64::MAX;
     while 0 < turns {
         let state = run.state;
         if filter::goes_on(state) {
-            run = turn(&names, &links, run, &mut block, &mut line, &mut out);
+            run = turn(&rt, &names, &links, run, &mut block, &mut line, &mut out);
         } else {
             return;
         }
