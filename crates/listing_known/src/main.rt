@@ -56,7 +56,7 @@ fn is_same(
     requires { cut ≤ length input.now }
 {
     let size = list_cut(names, links, input, cut, line, out);
-    check::same(front(out, size), expected)
+    front(out, size) == expected
 }
 
 // How many of the ways to cut the input in two give the expected listing.
@@ -79,23 +79,24 @@ fn same_ways(
     same
 }
 
-fn write_header(out: &mut [u8]) {
+fn write_header(rt: &HostRuntime, out: &mut [u8]) {
     match listing::put_header(out, 0) {
         Written::Done(size) => {
-            io::write_all(1, front(out, size));
+            streams::print(rt, front(out, size));
         }
         Written::Refused(_) => {}
     }
 }
 
-fn write_counts(ways: u64, same: u64) {
-    io::print_decimal(1, ways);
-    io::write_all(1, b" ways to cut it in two, ");
-    io::print_decimal(1, same);
-    io::write_all(1, b" the same\n");
+fn write_counts(rt: &HostRuntime, ways: u64, same: u64) {
+    streams::print_decimal(rt, ways);
+    streams::print(rt, b" ways to cut it in two, ");
+    streams::print_decimal(rt, same);
+    streams::print(rt, b" the same\n");
 }
 
 fn check_all(
+    rt: &HostRuntime,
     names: &Names,
     links: &Links,
     input: &[u8],
@@ -103,23 +104,24 @@ fn check_all(
     out: &mut [u8],
     other: &mut [u8],
 ) {
-    write_header(out);
+    write_header(rt, out);
     let size = list_cut(names, links, input, 0, line, out);
     let expected = front(out, size);
-    io::write_all(1, expected);
+    streams::print(rt, expected);
     let same = same_ways(names, links, input, line, other, expected);
-    write_counts(input.len() as u64, same);
+    write_counts(rt, input.len() as u64, same);
 }
 
-fn main() {
-    let mut input = io::buffer();
-    let mut out = io::buffer();
-    let mut other = io::buffer();
+fn main(rt: HostRuntime) {
+    let mut input = [0u8; 4096];
+    let mut out = [0u8; 4096];
+    let mut other = [0u8; 4096];
     let mut line = [0u8; LONGEST_ENTRY];
     let names = [0u8; NAME_BYTES];
     let links = [0u32; LINK_COUNT];
-    let size = io::read_full(0, &mut input);
+    let size = streams::read_full(&mut rt.stdin(), &mut input);
     check_all(
+        &rt,
         &names,
         &links,
         &input[..size],
