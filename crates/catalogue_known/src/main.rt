@@ -76,7 +76,7 @@ fn same_memory(names: &Names, links: &Links, other_names: &Names, other_links: &
         }
         i += 1;
     }
-    check::same(names, other_names)
+    names[..] == other_names[..]
 }
 
 fn is_same(file: &[u8], cut: usize, names: &Names, links: &Links, expected: Added) -> bool
@@ -112,66 +112,66 @@ fn same_ways(file: &[u8], names: &Names, links: &Links, expected: Added) -> u64 
 
 // ---- What is written
 
-fn write_whole(x: i64) {
+fn write_whole(rt: &HostRuntime, x: i64) {
     if whole::is_negative(x) {
-        io::write_all(1, b"-");
+        streams::print(rt, b"-");
     }
-    io::print_decimal(1, whole::magnitude(x));
+    streams::print_decimal(rt, whole::magnitude(x));
 }
 
-fn write_refusal(why: Refusal) {
-    io::write_all(1, b"!\t");
-    io::print_decimal(1, why.number as u64);
-    io::write_all(1, b"\t");
-    io::print_decimal(1, why.place as u64);
-    io::write_all(1, b"\t");
-    write_whole(why.value);
+fn write_refusal(rt: &HostRuntime, why: Refusal) {
+    streams::print(rt, b"!\t");
+    streams::print_decimal(rt, why.number as u64);
+    streams::print(rt, b"\t");
+    streams::print_decimal(rt, why.place as u64);
+    streams::print(rt, b"\t");
+    write_whole(rt, why.value);
 }
 
-fn write_answer(answer: Added) {
+fn write_answer(rt: &HostRuntime, answer: Added) {
     match answer {
         Added::Lines(n) => {
-            io::print_decimal(1, n as u64);
+            streams::print_decimal(rt, n as u64);
         }
-        Added::Refused(why) => write_refusal(why),
+        Added::Refused(why) => write_refusal(rt, why),
     }
 }
 
-fn write_calendar(calendar: Calendar) {
+fn write_calendar(rt: &HostRuntime, calendar: Calendar) {
     match calendar {
         Calendar::Julian => {
-            io::write_all(1, b"J");
+            streams::print(rt, b"J");
         }
         Calendar::Gregorian => {
-            io::write_all(1, b"G");
+            streams::print(rt, b"G");
         }
-        Calendar::Reforming(r) => write_whole(whole::widened(r)),
+        Calendar::Reforming(r) => write_whole(rt, whole::widened(r)),
     }
 }
 
-fn write_named(answer: Chosen) {
+fn write_named(rt: &HostRuntime, answer: Chosen) {
     match answer {
-        Chosen::Calendar(calendar) => write_calendar(calendar),
-        Chosen::Refused(why) => write_refusal(why),
+        Chosen::Calendar(calendar) => write_calendar(rt, calendar),
+        Chosen::Refused(why) => write_refusal(rt, why),
     }
 }
 
 // ---- The pieces of the input
 
-fn answer_catalogue(file: &[u8], names: &mut Names, links: &mut Links) {
+fn answer_catalogue(rt: &HostRuntime, file: &[u8], names: &mut Names, links: &mut Links) {
     let answer = read_cut(file, file.len(), names, links);
-    write_answer(answer);
-    io::write_all(1, b"\t");
-    io::print_decimal(1, same_ways(file, names, links, answer));
+    write_answer(rt, answer);
+    streams::print(rt, b"\t");
+    streams::print_decimal(rt, same_ways(file, names, links, answer));
 }
 
-fn answer_piece(kind: u8, bytes: &[u8], names: &mut Names, links: &mut Links) {
+fn answer_piece(rt: &HostRuntime, kind: u8, bytes: &[u8], names: &mut Names, links: &mut Links) {
     if kind == b'c' {
-        answer_catalogue(bytes, names, links);
+        answer_catalogue(rt, bytes, names, links);
     } else {
-        write_named(catalogue::named(names, links, bytes));
+        write_named(rt, catalogue::named(names, links, bytes));
     }
-    io::write_all(1, b"\n");
+    streams::print(rt, b"\n");
 }
 
 // The bytes of a piece, and where the next one begins.
@@ -216,7 +216,7 @@ fn piece_at(input: &[u8], at: usize) -> Piece
     piece_from(input.len(), 0, input.len())
 }
 
-fn answer_all(input: &[u8]) {
+fn answer_all(rt: &HostRuntime, input: &[u8]) {
     let mut names = [0u8; NAME_BYTES];
     let mut links = [0u32; LINK_COUNT];
     let mut at: usize = 0;
@@ -229,13 +229,13 @@ fn answer_all(input: &[u8]) {
         let piece = piece_at(input, at);
         let from = piece.from;
         let to = piece.to;
-        answer_piece(kind, &input[from..to], &mut names, &mut links);
+        answer_piece(rt, kind, &input[from..to], &mut names, &mut links);
         at = piece.next;
     }
 }
 
-fn main() {
+fn main(rt: HostRuntime) {
     let mut input = [0u8; INPUT];
-    let size = io::read_full(0, &mut input);
-    answer_all(&input[..size]);
+    let size = streams::read_full(&mut rt.stdin(), &mut input);
+    answer_all(&rt, &input[..size]);
 }
