@@ -185,16 +185,17 @@ fn hash_strings(
     hash
 }
 
-fn write_counts(size: usize, hash: u64) {
-    io::print_decimal(1, size as u64);
-    io::write_all(1, b" ");
-    io::print_decimal(1, string_count(size) as u64);
-    io::write_all(1, b" ");
-    io::print_decimal(1, hash);
-    io::write_all(1, b"\n");
+fn write_counts(rt: &HostRuntime, size: usize, hash: u64) {
+    streams::print_decimal(rt, size as u64);
+    streams::print(rt, b" ");
+    streams::print_decimal(rt, string_count(size) as u64);
+    streams::print(rt, b" ");
+    streams::print_decimal(rt, hash);
+    streams::print(rt, b"\n");
 }
 
 fn answer_strings(
+    rt: &HostRuntime,
     names: &Names,
     links: &Links,
     line: &mut [u8; LONGEST_RECORD],
@@ -203,7 +204,7 @@ fn answer_strings(
     let mut size: usize = 0;
     while size <= LONGEST {
         let hash = hash_strings(names, links, size, line, out);
-        write_counts(size, hash);
+        write_counts(rt, size, hash);
         size += 1;
     }
 }
@@ -220,7 +221,7 @@ fn is_same(
     expected: &[u8],
 ) -> bool {
     let used = import_cut(names, links, text, cut, line, out);
-    check::same(filter::front(out, used), expected)
+    filter::front(out, used) == expected
 }
 
 // How many of the ways to cut a text come to the same. The last way cuts it after its last byte.
@@ -247,6 +248,7 @@ fn same_ways(
 }
 
 fn answer_text(
+    rt: &HostRuntime,
     names: &Names,
     links: &Links,
     text: &[u8],
@@ -256,10 +258,10 @@ fn answer_text(
 ) {
     let used = import_whole(names, links, text, line, out);
     let expected = filter::front(out, used);
-    io::write_all(1, expected);
-    io::write_all(1, b"= ");
-    io::print_decimal(1, same_ways(names, links, text, line, other, expected));
-    io::write_all(1, b"\n");
+    streams::print(rt, expected);
+    streams::print(rt, b"= ");
+    streams::print_decimal(rt, same_ways(names, links, text, line, other, expected));
+    streams::print(rt, b"\n");
 }
 
 // ---- The texts of the input
@@ -307,6 +309,7 @@ fn piece_at(input: &[u8], at: usize) -> Piece
 }
 
 fn answer_texts(
+    rt: &HostRuntime,
     names: &Names,
     links: &Links,
     input: &[u8],
@@ -319,21 +322,22 @@ fn answer_texts(
         let piece = piece_at(input, at);
         let from = piece.from;
         let to = piece.to;
-        answer_text(names, links, &input[from..to], line, out, other);
+        answer_text(rt, names, links, &input[from..to], line, out, other);
         at = piece.next;
     }
 }
 
-fn main() {
-    let mut input = io::large_buffer();
-    let mut out = io::large_buffer();
-    let mut other = io::large_buffer();
+fn main(rt: HostRuntime) {
+    let mut input = [0u8; BLOCK_SIZE];
+    let mut out = [0u8; BLOCK_SIZE];
+    let mut other = [0u8; BLOCK_SIZE];
     let mut line = [0u8; LONGEST_RECORD];
     let names = [0u8; NAME_BYTES];
     let links = [0u32; LINK_COUNT];
-    let size = io::read_full(0, &mut input);
-    answer_strings(&names, &links, &mut line, &mut out);
+    let size = streams::read_full(&mut rt.stdin(), &mut input);
+    answer_strings(&rt, &names, &links, &mut line, &mut out);
     answer_texts(
+        &rt,
         &names,
         &links,
         &input[..size],
