@@ -265,16 +265,16 @@ fn answer_to(line: &[u8]) -> Reply {
 
 // ---- Lines and blocks
 
-fn flush(out: &[u8], n: usize) {
-    io::write_all(1, query::front(out, n));
+fn flush(rt: &HostRuntime, out: &[u8], n: usize) {
+    streams::print(rt, query::front(out, n));
 }
 
 // An answer has at most as many bytes as a line.
-fn room(out: &[u8], n: usize) -> usize {
+fn room(rt: &HostRuntime, out: &[u8], n: usize) -> usize {
     if n < 63_000 {
         return n;
     }
-    flush(out, n);
+    flush(rt, out, n);
     0
 }
 
@@ -296,9 +296,16 @@ fn query_of(line: &[u8]) -> &[u8] {
 }
 
 // The answer to the n bytes of a line, where the last of them ends it.
-fn answer_line(line: &[u8], n: usize, last: u8, out: &mut [u8], used: usize) -> usize {
+fn answer_line(
+    rt: &HostRuntime,
+    line: &[u8],
+    n: usize,
+    last: u8,
+    out: &mut [u8],
+    used: usize,
+) -> usize {
     if last == b'\n' {
-        let at = room(out, used);
+        let at = room(rt, out, used);
         let end = answer(query_of(query::front(line, n)), out, at);
         return put::line_end(out, end);
     }
@@ -323,34 +330,37 @@ fn held_after(n: usize, last: u8) -> usize {
 
 // Tells how many bytes of the next line are kept. The answers of a block are written before the next one is read, so that both sides can be
 // run by one program over pipes.
-fn feed(block: &[u8], line: &mut [u8], held: usize, out: &mut [u8]) -> usize {
+fn feed(rt: &HostRuntime, block: &[u8], line: &mut [u8], held: usize, out: &mut [u8]) -> usize {
     let mut n = held;
     let mut used: usize = 0;
     let mut i: usize = 0;
     while i < block.len() {
         let b = block[i];
         n = kept(line, n, b);
-        used = answer_line(line, n, b, out, used);
+        used = answer_line(rt, line, n, b, out, used);
         n = held_after(n, b);
         i += 1;
     }
-    flush(out, used);
+    flush(rt, out, used);
     n
 }
 
-fn main() {
-    let mut block = io::large_buffer();
-    let mut out = io::large_buffer();
+// The bytes of a block, and of the output.
+const BLOCK_SIZE: usize = 65536;
+
+fn main(rt: HostRuntime) {
+    let mut block = [0u8; BLOCK_SIZE];
+    let mut out = [0u8; BLOCK_SIZE];
     let mut line = [0u8; 2048];
     let mut n: usize = 0;
     let mut turns = u64::MAX;
     while turns > 0 {
-        let got = libc::read(0, &mut block);
+        let got = streams::read_some(&mut rt.stdin(), &mut block);
         if got <= 0 {
             break;
         }
-        let count = io::count(got, &block);
-        n = feed(query::front(&block, count), &mut line, n, &mut out);
+        let count = got as usize;
+        n = feed(&rt, query::front(&block, count), &mut line, n, &mut out);
         turns -= 1;
     }
 }
