@@ -6,7 +6,6 @@
 ghost use Rattle.std.specs.Prelude.{◌≡◌, ◌+◌, ◌<◌, ◌≤◌, length};
 
 use calendar::{Calendar, Date, Dated, Style};
-use libc::{STDIN_FILENO, STDOUT_FILENO};
 use numbertext::Number;
 
 // ---- The inputs: 4096 days of the years 1 to 2100. Day number and year are at 2 i in `signs`; ordinal, month, day, day ordinal and the length
@@ -328,34 +327,34 @@ fn obey(call: u8, calendar: Calendar, rounds: u64) -> u64
     run(call, calendar, &signs, &counts, &texts, 4096 * rounds)
 }
 
-fn say(sum: u64) {
-    io::print_decimal(STDOUT_FILENO, sum);
-    io::write_all(STDOUT_FILENO, b"\n");
+fn say(rt: &HostRuntime, sum: u64) {
+    streams::print_decimal(rt, sum);
+    streams::print(rt, b"\n");
 }
 
 // The orders stand in 512 bytes at most.
-fn order_at(orders: &[u8], at: usize)
+fn order_at(rt: &HostRuntime, orders: &[u8], at: usize)
     requires { at + 8 ≤ length orders.now }
 {
     let end = at + 7;
     let n = rounds(&orders[at..end]);
-    say(obey(orders[at], calendar_of(orders[at + 1]), n));
+    say(rt, obey(orders[at], calendar_of(orders[at + 1]), n));
 }
 
-fn all_orders(orders: &[u8], n: usize)
+fn all_orders(rt: &HostRuntime, orders: &[u8], n: usize)
     requires { (n ≤ length orders.now) × (length orders.now ≡ 512) }
 {
     let mut at: usize = 0;
     while at + 8 <= n {
-        order_at(orders, at);
+        order_at(rt, orders, at);
         at += 8;
     }
 }
 
-fn main() {
+fn main(rt: HostRuntime) {
     let mut orders = [0u8; 512];
-    let n = io::read_full(STDIN_FILENO, &mut orders);
+    let n = streams::read_full(&mut rt.stdin(), &mut orders);
     if n <= 512 {
-        all_orders(&orders, n);
+        all_orders(&rt, &orders, n);
     }
 }
