@@ -5,7 +5,6 @@
 #![tactic(auto)]
 
 use calendar::{Calendar, Date, Dated, Style};
-use libc::{STDIN_FILENO, STDOUT_FILENO};
 use numbertext::Number;
 use walker::{Walked, Walker};
 
@@ -100,12 +99,12 @@ fn rounds(order: &[u8]) -> u32 {
     }
 }
 
-fn main() {
+fn main(rt: HostRuntime) {
     let mut order = [0u8; 7];
-    let n = io::read_full(STDIN_FILENO, &mut order);
+    let n = streams::read_full(&mut rt.stdin(), &mut order);
     if n == 7 {
         let sum = walks(order[0], calendar_of(order[1]), rounds(&order));
-        io::print_decimal(STDOUT_FILENO, sum);
-        io::write_all(STDOUT_FILENO, b"\n");
+        streams::print_decimal(&rt, sum);
+        streams::print(&rt, b"\n");
     }
 }
