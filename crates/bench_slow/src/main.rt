@@ -6,7 +6,6 @@
 #![tactic(auto)]
 
 use calendar::{Calendar, Date, Dated, Style};
-use libc::{STDIN_FILENO, STDOUT_FILENO};
 use numbertext::Number;
 
 // ---- The sum, as in `bench_calls`
@@ -180,9 +179,9 @@ fn obey(order: &[u8; 32]) -> u64 {
     run(order[0], calendar_of(order[1]), &words, calls)
 }
 
-fn main() {
+fn main(rt: HostRuntime) {
     let mut order = [0u8; 32];
-    io::read_full(STDIN_FILENO, &mut order);
-    io::print_decimal(STDOUT_FILENO, obey(&order));
-    io::write_all(STDOUT_FILENO, b"\n");
+    streams::read_full(&mut rt.stdin(), &mut order);
+    streams::print_decimal(&rt, obey(&order));
+    streams::print(&rt, b"\n");
 }
