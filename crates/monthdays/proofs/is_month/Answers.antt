@@ -1,5 +1,4 @@
 -- `monthdays::is_month` meets its promise.
--- Assumes nothing.
 use Prim.Native.Nat.{ℕ, ◌≤◌}
 use mathlib.Core.Path.{sym, subst}
 use mathlib.Core.Logic.{⊎_elim}
@@ -9,8 +8,7 @@ use borrow.Author.Tests.{le-leb, lt-leb}
 use Rattle.whole.specs.Tests.{lt_or_ge}
 use Rattle.whole.specs.Whether.{Whether}
 use Rattle.days.specs.DayByDay.{Month}
-use Rattle.monthdays.proofs.is_month.Statement.{statement}
-use Rattle.monthdays.proofs.is_month.Tie as tie
+use Rattle.monthdays.proofs.is_month.Goals as goal
 
 at_most_twelve : (m : ℕ) → 1 ≤ m → Whether (Month m) (leb m 12)
 at_most_twelve m h = ⊎_elim
@@ -18,11 +16,8 @@ at_most_twelve m h = ⊎_elim
     (λ k. subst (Whether (Month m)) (sym (le-leb m 12 k)) (h, k))
     (lt_or_ge 12 m)
 
-returns : tie.Need-returns
-returns c = λ v. omega (arith, v.0, c.if1.true)
+pub returns-then-month-lt1 : goal.returns-then-month-lt1
+returns-then-month-lt1 c = λ v. omega (arith, v.0, c.if-month-lt1.true)
 
-returns-2 : tie.Need-returns-2
-returns-2 c = at_most_twelve _ c.if1.false
-
-pub is_month_spec : {M : Type 1} → statement M
-is_month_spec = tie.close (tie.spec returns returns-2)
+pub returns : goal.returns
+returns c = at_most_twelve _ c.if-month-lt1.false
