@@ -6,7 +6,8 @@ use Rattle.whole.specs.Tests.{true_or_false}
 use Rattle.std.specs.Int.Signed.{lt_z}
 use Rattle.whole.specs.Text.{bytes}
 use Rattle.writer.specs.Promise.{put, Copies, Signs, Decimal}
-use Rattle.writer.specs.Laws.{PutText, length_put, decimal_of}
+use Rattle.writer.specs.Laws.{PutText, decimal_of}
+use Rattle.writer.proofs.PutLaws.{length_put}
 use Rattle.writer.specs.declared.buffer.Copied.{Copied}
 use Rattle.linetext.specs.Laws.{Text, put_text, text_then}
 use Rattle.filter.specs.Promise.{arrived_of, block_size}

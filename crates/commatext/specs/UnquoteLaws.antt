@@ -6,7 +6,8 @@ use Rattle.whole.specs.Text.{tab}
 use Rattle.digits.specs.Promise.{pick}
 use Rattle.writer.specs.Promise.{put, Copies}
 use Rattle.writer.specs.declared.buffer.Copied.{Copied}
-use Rattle.writer.specs.Laws.{put_none, put_then, put_byte, PutText, put_on, length_put}
+use Rattle.writer.specs.Laws.{PutText}
+use Rattle.writer.proofs.PutLaws.{put_none, put_then, put_byte, put_on, length_put}
 use Rattle.commatext.specs.declared.Found.{Found}
 use Rattle.commatext.specs.declared.Scan.{Scan}
 use Rattle.commatext.specs.declared.Usual.{Usual}

@@ -15,7 +15,8 @@ use Rattle.whole.specs.Tests.{true_or_false}
 use Rattle.whole.specs.Promise.{is_negative_value}
 use Rattle.refusals.specs.declared.Refusal.{Refusal}
 use Rattle.writer.specs.Promise.{Copies, whole_text, Width, WholeDecimal, Puts, Writes, Signs}
-use Rattle.writer.specs.Laws.{PutText, put_on, put_none, put_byte, Copying, copying_on, copying_done, length_digits, width_few, whole_text_lem}
+use Rattle.writer.specs.Laws.{PutText, length_digits, width_few, whole_text_lem}
+use Rattle.writer.proofs.PutLaws.{put_on, put_none, put_byte, Copying, copying_on, copying_done}
 use Rattle.writer.specs.declared.buffer.Copied.{Copied}
 use Rattle.writer.specs.declared.Written.{Written}
 use Rattle.linetext.specs.Laws.{Text, text_as, text_then, put_text}

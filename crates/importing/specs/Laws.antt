@@ -7,7 +7,7 @@ use Rattle.refusals.specs.Promise.{refusal}
 use Rattle.whole.specs.Text.{tab}
 use Rattle.refusals.specs.declared.Refusal.{Refusal}
 use Rattle.writer.specs.Promise.{Writes, Puts}
-use Rattle.writer.specs.Laws.{length_put}
+use Rattle.writer.proofs.PutLaws.{length_put}
 use Rattle.writer.specs.declared.Written.{Written}
 use Rattle.calendar.specs.declared.Chosen.{Chosen}
 use Rattle.entry.specs.Promise.{Naming}

@@ -10,7 +10,7 @@ use Rattle.std.proofs.Math.Nat.{min-eq_left}
 use Rattle.std.proofs.Math.Seq.{drop-length}
 use Rattle.refusals.specs.Promise.{refusal}
 use Rattle.writer.specs.Promise.{put}
-use Rattle.writer.specs.Laws.{put_none, put_then, length_put}
+use Rattle.writer.proofs.PutLaws.{put_none, put_then, length_put}
 use Rattle.entry.specs.Entry.{Entry}
 use Rattle.entry.specs.Promise.{Naming, LineAnswer}
 use Rattle.linetext.specs.Line.{Ended, longest_line}

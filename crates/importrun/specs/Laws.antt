@@ -4,7 +4,7 @@ use Rattle.std.specs.Prelude.{ℕ, ◌+◌, ◌-◌, ◌≤◌, ◌<◌, min, �
 use Rattle.std.proofs.Common.{sym, ◌∙◌, ap, ap₂, subst, zero-add, arith, length-take, length-drop, drop_of_length-le, length-take-le, get_or-append-add, get_or-drop, get_or-take}
 use Rattle.std.proofs.Math.Nat.{min-eq_left, min-eq_right}
 use Rattle.writer.specs.Promise.{put}
-use Rattle.writer.specs.Laws.{put_none, Copying, copying_on, copying_done}
+use Rattle.writer.proofs.PutLaws.{put_none, Copying, copying_on, copying_done}
 use Rattle.filter.specs.declared.Phase.TheVariants.{Reading, Midway, Closing}
 use Rattle.filter.specs.declared.Event.{Event}
 use Rattle.filter.specs.declared.State.{State}

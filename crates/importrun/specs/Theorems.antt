@@ -11,7 +11,7 @@ use Rattle.std.proofs.Math.Nat.{min-eq_left}
 use Rattle.std.proofs.Math.ListN.{length, take, drop, length-append, length-take, length-drop}
 use Rattle.std.proofs.Math.Seq.{take_at}
 use Rattle.writer.specs.Promise.{put}
-use Rattle.writer.specs.Laws.{length_put}
+use Rattle.writer.proofs.PutLaws.{length_put}
 use Rattle.columns.specs.Columns.{header}
 use Rattle.nametable.specs.Promise.{Memory}
 use Rattle.catalogue.specs.Promise.{NamesIn}

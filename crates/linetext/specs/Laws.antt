@@ -7,7 +7,8 @@ use Rattle.refusals.specs.Promise.{refusal}
 use Rattle.digits.specs.Numerals.{dash}
 use Rattle.refusals.specs.declared.Refusal.{Refusal}
 use Rattle.writer.specs.Promise.{Copies, copied, no_room, digits_of, WholeDecimal, Puts, Writes, Signs}
-use Rattle.writer.specs.Laws.{PutText, put_on, length_digits, width_few, decimal_of, counting_start, counting_step, wrote, left_alone, whole_text_lem}
+use Rattle.writer.specs.Laws.{PutText, length_digits, width_few, decimal_of, counting_start, counting_step, wrote, left_alone, whole_text_lem}
+use Rattle.writer.proofs.PutLaws.{put_on}
 use Rattle.writer.specs.declared.buffer.Copied.{Copied}
 use Rattle.writer.specs.declared.Written.{Written}
 use Rattle.linetext.specs.Line.{longest_line, mark, Columns, letters, number_columns, refusal_columns, of_numbers, of_refusal, Ended, ended}

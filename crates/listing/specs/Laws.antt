@@ -3,7 +3,8 @@
 use Rattle.std.specs.Prelude.{ℕ, ◌+◌, ◌≤◌, ◌<◌, ◌≡◌, refl, List, [], length, pos}
 use Rattle.std.proofs.Common.{sym, subst, ◌∙◌, arith}
 use Rattle.writer.specs.Promise.{Writes, put, Puts}
-use Rattle.writer.specs.Laws.{put_none, wrote, left_alone, length_put}
+use Rattle.writer.specs.Laws.{wrote, left_alone}
+use Rattle.writer.proofs.PutLaws.{put_none, length_put}
 use Rattle.writer.specs.declared.Written.{Written}
 use Rattle.refusals.specs.Promise.{refusal as textRefusal}
 use Rattle.refusals.specs.declared.Refusal.{Refusal}

@@ -16,7 +16,7 @@ use Rattle.catalogue.specs.Catalogue.{catalogue, refused_by, Means}
 use Rattle.catalogue.specs.Promise.{NamesIn}
 use Rattle.catalogue.specs.Theorems.{named_with}
 use Rattle.writer.specs.Promise.{put}
-use Rattle.writer.specs.Laws.{put_none, put_then, length_put}
+use Rattle.writer.proofs.PutLaws.{put_none, put_then, length_put}
 use Rattle.bytesearch.specs.Promise.{Without}
 use Rattle.whole.specs.Text.{newline}
 use Rattle.textlines.specs.Lines.{joined}

@@ -9,7 +9,7 @@ use Rattle.std.proofs.lemmas.Bool.{eqb-false}
 use Rattle.whole.specs.Promise.{unbias}
 use Rattle.whole.specs.Tests.{lt_or_ge}
 use Rattle.writer.specs.Promise.{put}
-use Rattle.writer.specs.Laws.{length_put}
+use Rattle.writer.proofs.PutLaws.{length_put}
 use Rattle.nametable.specs.Limits.{most_lines, most_name, slot, heads}
 use Rattle.nametable.specs.Hash.{bucket_of_value}
 use Rattle.nametable.specs.HashLaws.{bucket_small}

@@ -5,7 +5,7 @@ use Rattle.std.proofs.Common.{sym, ◌∙◌, ap, subst, append_assoc, arith, le
 use Rattle.whole.specs.Text.{newline}
 use Rattle.bytesearch.specs.Promise.{Without}
 use Rattle.bytesearch.specs.Laws.{without_both}
-use Rattle.writer.specs.Laws.{length_put}
+use Rattle.writer.proofs.PutLaws.{length_put}
 use Rattle.textlines.specs.Lines.{Lines, longest_read}
 use Rattle.textlines.specs.Promise.{Holds, AddsToLine}
 

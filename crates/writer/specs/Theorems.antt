@@ -1,5 +1,5 @@
 -- THE THEOREMS ON WRITTEN TEXTS: where a date's text stands, and how long it is at most.
-use Rattle.std.specs.Prelude.{ℕ, ◌+◌, ◌≤◌, ◌<◌, ◌^◌, ◌≡◌, List, ◌∷◌, ◌++◌, length, take, drop, ℤ, nat_abs}
+use Rattle.std.specs.Prelude.{ℕ, ◌≤◌, ◌<◌, ◌^◌, ◌≡◌, List, ◌∷◌, ◌++◌, length, take, ℤ, nat_abs}
 use Rattle.std.proofs.Common.{sym, ◌∙◌, ap, subst, zero-add, arith, length-append}
 use Rattle.std.proofs.Math.Seq.{take-append_seam}
 use Rattle.digits.specs.Numerals.{dash}
@@ -14,7 +14,7 @@ pub written_front : {y : ℤ} {m d : ℕ} {b b' : List ℕ} {i : ℕ} → WriteY
 written_front {y} {m} {d} {b} {b'} {i} (Writes.writes {t} w p) = subst (λ (s : List ℕ). YmdDecimal s y m d) (sym (fronts p)) w
   where
     fronts : {c : List ℕ} {j : ℕ} → Puts t b 0 c (Written.Done j) → take j c ≡ t
-    fronts (Puts.done k) = ap (λ (n : ℕ). take n (put b 0 t)) (zero-add (length t)) ∙ take-append_seam t (drop (0 + length t) b)
+    fronts (Puts.done k) = ap (λ (n : ℕ). take n (put b 0 t)) (zero-add (length t)) ∙ take-append_seam t _
 
 -- at most 14 bytes, for a year of at most seven digits
 year_short : {p : List ℕ} {y : ℤ} → WholeDecimal p y → nat_abs y < 10 ^ 7 → length p ≤ 8

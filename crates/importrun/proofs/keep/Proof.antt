@@ -2,7 +2,7 @@
 -- Assumes nothing.
 use Prim.Native.Nat.{◌-◌}
 use native.Mathlib.Omega.{arith}
-use Rattle.writer.specs.Laws.{Copying, copying_start}
+use Rattle.writer.proofs.PutLaws.{Copying, copying_start}
 use Rattle.importrun.specs.Laws.{part, keeps_none, keeping_on, keeping_done}
 use borrow.Author.Rules.{rules}
 use Rattle.importrun.proofs.keep.Statement.{statement}

@@ -1,7 +1,7 @@
 -- `linetext::put_byte` meets its promise: a byte stored is a text of one byte put there.
 -- Assumes nothing.
 use mathlib.Core.Path.{refl}
-use Rattle.writer.specs.Laws.{put_byte}
+use Rattle.writer.proofs.PutLaws.{put_byte}
 use borrow.Author.Rules.{rules}
 use Rattle.linetext.proofs.put_byte.Statement.{statement}
 use Rattle.linetext.proofs.put_byte.Tie as tie

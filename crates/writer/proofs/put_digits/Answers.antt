@@ -2,7 +2,7 @@
 use mathlib.Core.Path.{sym, ap}
 use Prim.Native.Nat.{ℕ, ◌+◌}
 use Rattle.writer.specs.Laws.{length_digits}
-use Rattle.writer.specs.Laws.{filling_step, filling_done}
+use Rattle.writer.proofs.PutLaws.{filling_step, filling_done}
 use Rattle.writer.proofs.put_digits.Goals as goal
 
 pub loop-left-preserved : goal.loop-left-preserved

@@ -1,5 +1,5 @@
 -- `writer::put_digits` meets its promise. The loop's invariant is `Filling`: what is still to be put takes the buffer to the whole. The measure is how many digits are left.
-use Rattle.writer.specs.Laws.{Filling}
+use Rattle.writer.proofs.PutLaws.{Filling}
 use Rattle.writer.proofs.put_digits.Given as goal
 
 abbrev pub invariant-loop-left : goal.invariant-loop-left

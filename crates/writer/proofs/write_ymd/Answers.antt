@@ -6,7 +6,8 @@ use lib.IntN.{nat_abs}
 use mir.Facts.{to_z-of_z}
 use mir.Syntax.{w64}
 use Rattle.whole.specs.Promise.{is_negative_value}
-use Rattle.writer.specs.Laws.{length_whole, ymd_left, ymd_wrote}
+use Rattle.writer.specs.Laws.{length_whole, ymd_left}
+use Rattle.writer.proofs.PutLaws.{ymd_wrote}
 use borrow.Author.Rules.{sfits_of}
 use Rattle.writer.proofs.write_ymd.Goals as goal
 

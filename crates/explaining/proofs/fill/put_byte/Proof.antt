@@ -1,7 +1,7 @@
 -- `explaining::fill::put_byte` meets its promise.
 -- Assumes nothing.
 use mathlib.Core.Path.{refl}
-use Rattle.writer.specs.Laws.{put_byte}
+use Rattle.writer.proofs.PutLaws.{put_byte}
 use borrow.Author.Rules.{rules}
 use Rattle.explaining.proofs.fill.put_byte.Statement.{statement}
 use Rattle.explaining.proofs.fill.put_byte.Tie as tie

@@ -3,7 +3,7 @@
 use Prim.Native.Nat.{◌-◌}
 use native.Mathlib.Omega.{arith}
 use lib.ListN.{length}
-use Rattle.writer.specs.Laws.{Copying, copying_start}
+use Rattle.writer.proofs.PutLaws.{Copying, copying_start}
 use Rattle.explaining.specs.Patterns.{shown}
 use Rattle.explaining.specs.Laws.{shown_long, showing_on, showing_done}
 use Rattle.explaining.proofs.fill.put_shown.Statement.{statement}

@@ -2,7 +2,7 @@
 -- Assumes nothing.
 use Prim.Native.Nat.{◌-◌}
 use native.Mathlib.Omega.{arith}
-use Rattle.writer.specs.Laws.{Copying, copying_start}
+use Rattle.writer.proofs.PutLaws.{Copying, copying_start}
 use Rattle.explaining.specs.Wording.{spaces}
 use Rattle.explaining.specs.Laws.{spaces_long, spacing_on, spacing_done}
 use Rattle.explaining.proofs.picture.put_spaces.Statement.{statement}

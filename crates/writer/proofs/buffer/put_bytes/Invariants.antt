@@ -1,5 +1,5 @@
 -- `writer::buffer::put_bytes` meets its promise. The loop's invariant is `Copying`: the first bytes of the text stand in the buffer. The measure is how many are left.
-use Rattle.writer.specs.Laws.{Copying}
+use Rattle.writer.proofs.PutLaws.{Copying}
 use Prim.Native.Nat.{◌-◌}
 use lib.ListN.{length}
 use Rattle.writer.proofs.buffer.put_bytes.Given as goal

@@ -1,0 +1,2 @@
+-- Laws that the proofs need, and those of the crates above.
+pub mod PutLaws
