@@ -1,5 +1,5 @@
 -- What is read is a part of the buffer, whose length stays.
-use Rattle.std.proofs.Common.{length, ◌-◌, ◌≤◌, ◌≡◌, ℕ}
+use Rattle.std.proofs.Common.{length, ◌-◌, ◌≤◌, ◌≡◌}
 use Rattle.streams.proofs.read_full.Given as goal
 
 abbrev pub invariant-loop-used : goal.invariant-loop-used
