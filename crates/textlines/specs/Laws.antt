@@ -1,5 +1,4 @@
 -- What the proofs need: how bytes are added to a line, and what a block has of it.
--- Assumes nothing.
 use Rattle.std.specs.Prelude.{ℕ, ◌+◌, ◌≤◌, ◌<◌, ◌-◌, ◌≡◌, List, [], ◌∷◌, ◌++◌, length, take, drop}
 use Rattle.std.proofs.Common.{sym, subst, ◌∙◌, ap, append_assoc, arith, length-append, length-drop, take_all, take_at, drop-drop, drop_at}
 use Rattle.std.proofs.Math.Seq.{drop-length}

@@ -1,5 +1,4 @@
 -- The lines of a text: a newline ends a line, and a last line needs none. A byte is any number below 256.
--- Assumes nothing.
 use Rattle.std.specs.Prelude.{ℕ, ◌<◌, List, [], ◌∷◌, ◌++◌, length}
 use Rattle.whole.specs.Text.{newline}
 use Rattle.bytesearch.specs.Promise.{Without}

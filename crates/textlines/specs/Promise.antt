@@ -1,5 +1,4 @@
 -- What is promised of a line that is held in the line buffer l: n bytes of it stand there, or it is too long, and n is above `longest_read`.
--- Assumes nothing.
 use Rattle.std.specs.Prelude.{ℕ, ◌+◌, ◌≤◌, ◌<◌, ◌≡◌, List, ◌∷◌, ◌++◌, length, take, drop}
 use Rattle.writer.specs.Promise.{put}
 use Rattle.bytesearch.specs.Promise.{Without}

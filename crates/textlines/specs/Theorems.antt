@@ -1,5 +1,4 @@
 -- The line buffer stands for the bytes of the unfinished line, however they came; and bytes that come in parts are cut into the lines of the whole text.
--- Assumes nothing.
 use Rattle.std.specs.Prelude.{ℕ, ◌+◌, ◌<◌, ◌≡◌, refl, List, [], ◌∷◌, ◌++◌, length, take, drop}
 use Rattle.std.proofs.Common.{sym, ◌∙◌, ap, subst, append_assoc, arith, length-append, take_at, length-take-le}
 use Rattle.whole.specs.Text.{newline}
