@@ -1,5 +1,6 @@
 # Sourced by the scripts of bench/. It sets `top`, the root of the repository, `made`, the folder for all that is built, and `built`, the folder
 # of the Rust programs, and defines
+#   build PROGRAM..                 proves and builds programs of the library; each lands in its crate's folder, in out/
 #   build_rust FOLDER               builds the cargo project bench/FOLDER over the crate julian 0.7.1; its programs land in "$built"
 #   run PROGRAM [WORDS]             runs an x86-64 program, the library's or a Rust one
 #   count PROGRAM [WORDS]           the same with its output thrown away; prints how many instructions the run took
@@ -31,6 +32,17 @@ else
     count() { emulated -plugin "$made/insn.so" "$@" 2>&1 >/dev/null | sed -n 's/^insns \([0-9]*\)$/\1/p'; }
     export RUSTC=$made/rustc CARGO_TARGET_X86_64_UNKNOWN_LINUX_GNU_LINKER=x86_64-linux-gnu-gcc
 fi
+
+# A program is run on empty input once it is built.
+build() { # PROGRAM..
+    local name
+    for name in "$@"; do
+        (cd "$top/crates/$name" && rt run </dev/null) >"$made/check.log" 2>&1 || {
+            tail -n 3 "$made/check.log"
+            exit 1
+        }
+    done
+}
 
 # A copy of the project is built, in target/, so that no lock file and no link to the source lands among the project's files.
 build_rust() { # FOLDER

@@ -10,7 +10,7 @@
 # Exit status: 0 that is complete; 1 it is not, and standard error says why; 2 wrong arguments, or the program could not be built.
 # shellcheck shell=sh disable=SC2154,SC2034 # a script that sources this one sets the names above, and can read those below
 top=$(dirname "$(dirname "$(readlink -f "$0")")")
-program=$top/target/bin/$name
+program=$top/crates/$name/out/$name
 most=1 operands="one file of $kind" # how many operands there are at most; a script that takes more says so once this is sourced
 
 say() { echo "$name: $1" >&2; }
@@ -82,15 +82,20 @@ needed() {
         END { add(want); print count }' "$top/crates.txt"
 }
 
-# A line for each crate that is proved; where one fails, all that was said.
+# A line for each crate that is proved now; where one fails, all that was said. The program is run on empty input once it is built.
 build() {
-    { (cd "$top" && rt check "$name") 2>&1; echo "ended $?"; } | awk -v name="$name" -v all="$(needed)" '
+    { (cd "$top/crates/$name" && rt run </dev/null >/dev/null) 2>&1; echo "ended $?"; } | awk -v name="$name" -v all="$(needed)" '
         /^ended / { if ($2) printf "%s", said; exit $2 }
-        /^rt: [a-z_0-9]+ proved/ { printf "%s: %d of %d: %s\n", name, ++done, all, $2; fflush() }
+        /^crate [a-z_0-9]+:/ { crate = substr($2, 1, length($2) - 1) }
+        /^logic=proved/ { printf "%s: %d of %d: %s\n", name, ++done, all, crate; fflush() }
         { said = said $0 "\n" }'
 }
 
-is_old() { [ ! -x "$program" ] || [ -n "$(find "$top/crates" "$top/crates.txt" -newer "$program" -print | head -n 1)" ]; }
+# What is made lies in the folders out/ of the crates.
+is_old() {
+    [ ! -x "$program" ] || [ "$top/crates.txt" -nt "$program" ] ||
+        [ -n "$(find "$top/crates" -mindepth 2 -name out -prune -o -newer "$program" -print | head -n 1)" ]
+}
 
 # One run builds; others that are started meanwhile, of this program or another, wait for it.
 build_if_old() {
@@ -107,13 +112,13 @@ build_if_old() {
 # ---- Running it
 
 # The program in place of the shell that calls this. Programs are made for x86-64 and for the C library of the toolchain, which has a loader of its
-# own and, for Arm, an emulator.
+# own; on another machine an emulator runs them.
 run() { # ARGUMENTS
-    tools=$(dirname "$(dirname "$(readlink -f "$(command -v rt)")")")/on/$(uname -m)/toolchain
+    tools=$(dirname "$(dirname "$(readlink -f "$(command -v rt)")")")/toolchain
     loader=$tools/lib/ld-linux-x86-64.so.2
     set -- "$program" "$@"
     [ -e "$loader" ] && set -- "$loader" --library-path "$tools/lib" "$@"
-    [ -x "$tools/bin/qemu-x86_64" ] && set -- "$tools/bin/qemu-x86_64" "$@"
+    [ "$(uname -m)" = x86_64 ] || set -- qemu-x86_64 "$@"
     exec "$@"
 }
 

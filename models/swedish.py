@@ -3,7 +3,7 @@
 
 queries  For crates/probe/stdin, before the heading of the crate julian 0.7.1. `python3 models/swedish.py queries | python3 models/known.py` has the
          answers, for the same place in crates/probe/stdout.
-every    Every day of 1699 to 1754 through every call. These are too many to be kept: what target/bin/probe answers to them is compared with
+every    Every day of 1699 to 1754 through every call. These are too many to be kept: what crates/probe/out/probe answers to them is compared with
          `python3 models/swedish.py every | python3 models/known.py`.
 entries  The same years for the listing and for the explanation: cases of samples/check, which compares a script with its model (`as_model`). With a
          comma for the tab they are records for the import.
