@@ -13,19 +13,20 @@ use Rattle.calendar.specs.Promise.{YmdIn, OrdinalIn}
 use Rattle.calendar.specs.One.{ymd_in_one, ordinal_in_one}
 use Rattle.writer.specs.One.{write_ymd_one}
 use Rattle.writer.specs.declared.Written.{Written}
-use Rattle.datetext.specs.Theorems as T
+use Rattle.datetext.specs.Grammar.{Belongs}
+use Rattle.datetext.proofs.Theorems as T
 use Rattle.dateparse.specs.Promise.{placed_at, ByTextIn, by_fault, by_ordinal, by_ymd, ParseDate, WriteDate}
 
 pub by_text_one : {t : Timeline} → Rises (labels_in t) → (c : Calendar) (s : List ℕ) → One (ByTextIn t c s)
 by_text_one {t} up c s a b (by_fault p) (by_fault q) = ap Dated'.Refused (T.one_fault p q)
-by_text_one {t} up c s a b (by_fault p) (by_ordinal q g) = absurd (T.never_both (T.Belongs.by_ordinal q) p)
-by_text_one {t} up c s a b (by_fault p) (by_ymd q g) = absurd (T.never_both (T.Belongs.by_day q) p)
-by_text_one {t} up c s a b (by_ordinal p f) (by_fault q) = absurd (T.never_both (T.Belongs.by_ordinal p) q)
+by_text_one {t} up c s a b (by_fault p) (by_ordinal q g) = absurd (T.never_both (Belongs.by_ordinal q) p)
+by_text_one {t} up c s a b (by_fault p) (by_ymd q g) = absurd (T.never_both (Belongs.by_day q) p)
+by_text_one {t} up c s a b (by_ordinal p f) (by_fault q) = absurd (T.never_both (Belongs.by_ordinal p) q)
 by_text_one {t} up c s a b (by_ordinal {y} {o} {k} {a = x} p f) (by_ordinal {y = z} {o = i} {k = j} {a = w} q g) =
     let (e, h, l) = T.one_ordinal p q in
     ap (placed_at k) (ordinal_in_one t c y o x w f (subst (λ (z : ℤ). OrdinalIn t c z o w) (sym e) (subst (λ (i : ℕ). OrdinalIn t c z i w) (sym h) g))) ∙ ap (λ (n : ℕ). placed_at n w) l
 by_text_one {t} up c s a b (by_ordinal p f) (by_ymd q g) = absurd (T.one_way p q)
-by_text_one {t} up c s a b (by_ymd p f) (by_fault q) = absurd (T.never_both (T.Belongs.by_day p) q)
+by_text_one {t} up c s a b (by_ymd p f) (by_fault q) = absurd (T.never_both (Belongs.by_day p) q)
 by_text_one {t} up c s a b (by_ymd p f) (by_ordinal q g) = absurd (T.one_way q p)
 by_text_one {t} up c s a b (by_ymd {y} {m} {d} {k} {a = x} p f) (by_ymd {y = z} {m = n} {d = i} {k = j} {a = w} q g) =
     let (e, h, l, g') = T.one_ymd p q in

@@ -11,8 +11,8 @@ use Rattle.writer.specs.declared.Written.{Written}
 use Rattle.datetext.specs.Grammar.{YmdText}
 use Rattle.days.specs.DayByDay.{Month}
 use Rattle.datetext.specs.Promise.{ReadDate}
-use Rattle.datetext.specs.One.{read_one}
-use Rattle.datetext.specs.Theorems.{Belongs}
+use Rattle.datetext.proofs.One.{read_one}
+use Rattle.datetext.specs.Grammar.{Belongs}
 use Rattle.datetext.specs.declared.Text.{Text}
 
 unsigned_text : {p : List ℕ} {n : ℕ} → Decimal p n → n < 2 ^ 32 → Unsigned p n

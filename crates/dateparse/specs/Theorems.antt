@@ -20,8 +20,8 @@ use Rattle.calendar.specs.Answered.{ymd_answered, ordinal_answered}
 use Rattle.writer.specs.Promise.{YmdDecimal}
 use Rattle.writer.specs.Theorems as W
 use Rattle.writer.specs.declared.Written.{Written}
-use Rattle.datetext.specs.Grammar.{OrdinalText, YmdText}
-use Rattle.datetext.specs.Theorems as T
+use Rattle.datetext.specs.Grammar.{OrdinalText, YmdText, Belongs}
+use Rattle.datetext.proofs.Theorems as T
 use Rattle.dateparse.specs.EveryText.{Says, says_ymd, says_ordinal, EveryText}
 use Rattle.dateparse.specs.ReadBack.{has_text, written_writes}
 use Rattle.dateparse.specs.One.{by_text_one}
@@ -54,10 +54,10 @@ module _ (t : Timeline) (r : Rising t) (c : Calendar) {s : List ℕ} where
 
   -- where a 32-bit day bears the date that a text writes, the text is accepted, with the record of that day
   pub accepts : {n : ℤ} {a : Dated} → Is32Bit n → Says t s n → ByTextIn t c s a → IsRecordOfIn t c n a
-  accepts {n} f (says_ymd p e) (by_fault q) = absurd (T.never_both (T.Belongs.by_day p) q)
+  accepts {n} f (says_ymd p e) (by_fault q) = absurd (T.never_both (Belongs.by_day p) q)
   accepts {n} f (says_ymd p e) (by_ordinal q g) = absurd (T.one_way q p)
   accepts f (says_ymd p e) (by_ymd {k = k} q g) = placed_is t c k (ymd_in_accepts t c r f (e ∙ same_label p q) g)
-  accepts {n} f (says_ordinal p u h) (by_fault q) = absurd (T.never_both (T.Belongs.by_ordinal p) q)
+  accepts {n} f (says_ordinal p u h) (by_fault q) = absurd (T.never_both (Belongs.by_ordinal p) q)
   accepts {n} f (says_ordinal {y} {o} p u h) (by_ordinal {y = z} {o = i} {k = j} {a = w} q g) =
       let (e, l, k) = T.one_ordinal p q in
       placed_is t c j (ordinal_in_accepts t c r f u h (subst (λ (z : ℤ). OrdinalIn t c z o w) (sym e) (subst (λ (i : ℕ). OrdinalIn t c z i w) (sym l) g)))
@@ -101,9 +101,9 @@ module _ (t : Timeline) (r : Rising t) (c : Calendar) where
   text_answered : (s : List ℕ) → (a : Dated) × ByTextIn t c s a
   text_answered s = ⊎_elim by (λ (f, q). (Dated'.Refused f, by_fault q)) (T.belongs_or_faulty s)
     where
-      by : T.Belongs s → (a : Dated) × ByTextIn t c s a
-      by (T.Belongs.by_ordinal p) = ordinal_text_answered p
-      by (T.Belongs.by_day p) = ymd_text_answered p
+      by : Belongs s → (a : Dated) × ByTextIn t c s a
+      by (Belongs.by_ordinal p) = ordinal_text_answered p
+      by (Belongs.by_day p) = ymd_text_answered p
 
 -- ---- Demand 3: any timeline that rises
 pub every_text : (t : Timeline) → Rising t → (c : Calendar) → EveryText t c (ByTextIn t c)

@@ -18,6 +18,11 @@ pub data YmdText : List ℕ → ℤ → ℕ → ℕ → ℕ → Type 0 where
   ymd : {p q t : List ℕ} {y : ℤ} {m d : ℕ} → Signed p y → Unsigned q m → Month m → Unsigned t d
       → YmdText (p ++ (dash ∷ (q ++ (dash ∷ t)))) y m d (length p + 1 + length q + 1)
 
+-- which texts belong to the grammar
+pub data Belongs (s : List ℕ) : Type 0 where
+  by_ordinal : {y : ℤ} {n k : ℕ} → OrdinalText s y n k → Belongs s
+  by_day : {y : ℤ} {m d k : ℕ} → YmdText s y m d k → Belongs s
+
 -- THE FIRST FAULT. A text has it where all before a place is what the grammar takes, a number going on while digits come, and what stands at
 -- that place is wrong. There is one rule for each place, in the order of the text.
 pub data Fault : List ℕ → Refusal → Type 0 where

@@ -26,6 +26,9 @@ pub data IfAt (P : ℕ → ℕ → Type 0) : Part → Type 0 where
 pub if_at : {P : ℕ → ℕ → Type 0} {n next : ℕ} → IfAt P (Part.At n next) → P n next
 if_at (found h) = h
 
+pub nothing_found : {P : ℕ → ℕ → Type 0} → IfAt P Part.Other
+nothing_found = other
+
 -- ---- what the text comes to once the year, the month or the day is read: n is the number, and `next` the place after it and its dash
 
 pub record YearRead (s : List ℕ) (n next : ℕ) : Type 0 where
@@ -112,6 +115,9 @@ module _ (s : List ℕ) {at n : ℕ} where
   two_digit_day h a =
       day_by s h
       (number_of s at _ (pair_front a (front_end s (at + 2) (omega arith))) (omega arith) (omega (arith, a.is)) (omega arith) (omega (arith, a.is, a.tens.high, a.ones.high)))
+
+  pub two_digits_read : at + 2 ≡ length s → n ≡ pair_of s at → n < 100 → DayRead s at n
+  two_digits_read h p k = two_digit_day h (pair_seen s at p k)
 
   pub one_digit_day : at + 1 ≡ length s → DigitIs s at n → DayRead s at n
   one_digit_day h a =

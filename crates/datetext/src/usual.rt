@@ -17,6 +17,7 @@ enum Part {
 }
 
 // The last two digits of the year are to stand at `at`, where a `-` is known to come after them.
+#[tactic(auto, using(crate::specs::Usual::nothing_found))]
 fn year_at(text: &[u8], hundreds: u32, at: usize) -> Part
     requires { Hundreds text.now hundreds at }
     ensures { IfAt (YearRead text.now) result }
@@ -31,6 +32,7 @@ fn year_at(text: &[u8], hundreds: u32, at: usize) -> Part
     Part::At(hundreds * 100 + rest, at + 3)
 }
 
+#[tactic(auto, using(crate::specs::Usual::nothing_found))]
 fn usual_year(text: &[u8]) -> Part
     ensures { IfAt (YearRead text.now) result }
 {
@@ -51,6 +53,7 @@ fn usual_year(text: &[u8]) -> Part
 }
 
 // The month is to stand at `at`.
+#[tactic(auto, using(crate::specs::Usual::nothing_found))]
 fn usual_month(text: &[u8], at: usize) -> Part
     requires { at ≤ length text.now }
     ensures { IfAt (MonthRead text.now at) result }
@@ -78,6 +81,7 @@ fn usual_month(text: &[u8], at: usize) -> Part
 }
 
 // The day is to stand at `at` and to end the text: 100 says that it does not.
+#[tactic(auto, using(crate::specs::Usual::two_digits_read))]
 fn usual_day(text: &[u8], at: usize) -> u32
     requires { at ≤ length text.now }
     ensures { result < 100 → DayRead text.now at result }

@@ -2,7 +2,7 @@
 -- then that byte; the end, exactly if u is such a text. Nothing here reads.
 -- Assumes nothing.
 use Rattle.std.specs.Prelude.{ℕ, List, ◌∷◌, ◌++◌}
-use Rattle.datetext.specs.Theorems.{Belongs}
+use Rattle.datetext.specs.Grammar.{Belongs}
 
 abbrev pub CouldFollow : List ℕ → ℕ → Type 0
 CouldFollow u b = (rest : List ℕ) × Belongs (u ++ (b ∷ rest))

@@ -15,7 +15,7 @@ use Rattle.datetext.specs.Promise.{ReadDate}
 use Rattle.datetext.specs.declared.Text.{Text}
 use Rattle.days.specs.DayByDay.{Month}
 use Rattle.whole.specs.Whether.{Whether}
-use Rattle.datetext.specs.Theorems.{never_both}
+use Rattle.datetext.proofs.Theorems.{never_both}
 use Rattle.expected.specs.Promise.{Expects}
 use Rattle.expected.specs.Numbers.{far_on, digits_left_value}
 use Rattle.expected.specs.Fronts.{expects, nothing_expects, start_expects, plus_expects, dash_expects, YearSoFar, year_expects, second_start_expects, second_expects, third_start_expects, third_expects}

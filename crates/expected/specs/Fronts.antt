@@ -9,7 +9,8 @@ use Rattle.days.specs.DayByDay.{Month}
 use Rattle.digits.specs.Numerals.{plus, dash, Digit, Numeral, Stops}
 use Rattle.numbertext.specs.Numerals.{Unsigned, Signed, NoNumber, NoSigned, NoDash}
 use Rattle.datetext.specs.Grammar.{OrdinalText, YmdText, Fault}
-use Rattle.datetext.specs.Theorems.{Belongs, never_both}
+use Rattle.datetext.proofs.Theorems.{never_both}
+use Rattle.datetext.specs.Grammar.{Belongs}
 use Rattle.expected.specs.Expected.{CouldFollow}
 use Rattle.expected.specs.Promise.{Expects}
 use Rattle.expected.specs.Numbers.{longer, single, one, too_far, digits_left_value, left_few}

@@ -37,7 +37,7 @@ use Rattle.numbertext.specs.declared.SignedNumber.{SignedNumber}
 use Rattle.datetext.specs.Grammar.{OrdinalText, YmdText, Fault}
 use Rattle.datetext.specs.Promise.{ReadDate}
 use Rattle.datetext.specs.declared.Text.{Text}
-use Rattle.datetext.specs.Theorems as T
+use Rattle.datetext.proofs.Theorems as T
 use Rattle.expected.specs.declared.Expected.{Expected}
 use Rattle.expected.specs.Promise.{Expects}
 use Rattle.reasons.specs.declared.Reason.{Reason}

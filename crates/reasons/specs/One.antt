@@ -19,8 +19,8 @@ use Rattle.calendar.specs.Calendars.{timeline, IsRecordIn}
 use Rattle.calendar.specs.One.{record_one}
 use Rattle.calendar.specs.RowLaws.{One}
 use Rattle.numbertext.specs.Numerals.{NoSigned}
-use Rattle.datetext.specs.Grammar.{Fault}
-use Rattle.datetext.specs.Theorems as T
+use Rattle.datetext.specs.Grammar.{Belongs, Fault}
+use Rattle.datetext.proofs.Theorems as T
 use Rattle.expected.specs.declared.Expected.{Expected}
 use Rattle.expected.specs.Promise.{Expects}
 use Rattle.expected.specs.One.{expects_one}
@@ -107,17 +107,17 @@ explains_one c s a b (Explains.made_up n) (Explains.by_ymd x u q) = absurd (n x)
 explains_one c s a b (Explains.made_up n) (Explains.by_ordinal x u q) = absurd (n x)
 explains_one c s a b (Explains.faulty x p) (Explains.made_up m) = absurd (m x)
 explains_one c s a b (Explains.faulty x p) (Explains.faulty z q) = of_fault_one s a b p q
-explains_one c s a b (Explains.faulty x p) (Explains.by_ymd z u q) = absurd (T.never_both (T.Belongs.by_day u) (has_fault p).1)
-explains_one c s a b (Explains.faulty x p) (Explains.by_ordinal z u q) = absurd (T.never_both (T.Belongs.by_ordinal u) (has_fault p).1)
+explains_one c s a b (Explains.faulty x p) (Explains.by_ymd z u q) = absurd (T.never_both (Belongs.by_day u) (has_fault p).1)
+explains_one c s a b (Explains.faulty x p) (Explains.by_ordinal z u q) = absurd (T.never_both (Belongs.by_ordinal u) (has_fault p).1)
 explains_one c s a b (Explains.by_ymd x u p) (Explains.made_up m) = absurd (m x)
-explains_one c s a b (Explains.by_ymd x u p) (Explains.faulty z q) = absurd (T.never_both (T.Belongs.by_day u) (has_fault q).1)
+explains_one c s a b (Explains.by_ymd x u p) (Explains.faulty z q) = absurd (T.never_both (Belongs.by_day u) (has_fault q).1)
 explains_one c s a b (Explains.by_ymd {y} {m} {d} {k} x u p) (Explains.by_ymd {y = z} {m = n} {d = i} {k = j} w v q) =
     let (e, f, g, h) = T.one_ymd v u in
     of_ymd_one (timeline c) (accepted_rising x) c y m d k a b p
     (subst (λ (z : ℤ). OfYmd (timeline c) c z m d k b) e (subst (λ (n : ℕ). OfYmd (timeline c) c z n d k b) f (subst (λ (i : ℕ). OfYmd (timeline c) c z n i k b) g (subst (λ (j : ℕ). OfYmd (timeline c) c z n i j b) h q))))
 explains_one c s a b (Explains.by_ymd x u p) (Explains.by_ordinal z v q) = absurd (T.one_way v u)
 explains_one c s a b (Explains.by_ordinal x u p) (Explains.made_up m) = absurd (m x)
-explains_one c s a b (Explains.by_ordinal x u p) (Explains.faulty z q) = absurd (T.never_both (T.Belongs.by_ordinal u) (has_fault q).1)
+explains_one c s a b (Explains.by_ordinal x u p) (Explains.faulty z q) = absurd (T.never_both (Belongs.by_ordinal u) (has_fault q).1)
 explains_one c s a b (Explains.by_ordinal x u p) (Explains.by_ymd z v q) = absurd (T.one_way u v)
 explains_one c s a b (Explains.by_ordinal {y} {o} {k} x u p) (Explains.by_ordinal {y = z} {o = i} {k = j} w v q) =
     let (e, f, g) = T.one_ordinal v u in

@@ -17,7 +17,7 @@ use Rattle.refusals.specs.declared.Refusal.{Refusal}
 use Rattle.digits.specs.Numerals.{dash}
 use Rattle.numbertext.specs.Numerals.{TooFar, NoNumber, NoSigned, NoDash}
 use Rattle.datetext.specs.Grammar.{Fault}
-use Rattle.datetext.specs.Theorems.{month_written}
+use Rattle.datetext.proofs.Theorems.{month_written}
 use Rattle.dateparse.specs.Promise.{placed_at, ByTextIn, by_fault, by_ymd, by_ordinal, ParseDate}
 use Rattle.dateparse.specs.One.{parse_date_one}
 use Rattle.reasons.specs.declared.Reason.{Reason}

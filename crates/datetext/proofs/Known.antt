@@ -8,7 +8,7 @@ use Rattle.digits.specs.Promise.{run_from}
 use Rattle.numbertext.specs.Reading.{placed, read_number, signed_run_value, read_signed, read_dash, read_end}
 use Rattle.datetext.specs.Promise.{ReadDate}
 use Rattle.datetext.specs.Reading.{read_text}
-use Rattle.datetext.specs.Laws.{read_meant}
+use Rattle.datetext.proofs.Laws.{read_meant}
 use Rattle.datetext.specs.declared.Text.{Text}
 
 -- the text `2023-`, and then u

@@ -4,18 +4,12 @@
 use Rattle.std.specs.Prelude.{ℕ, ◌≡◌, List, ◌⊎◌, ℤ}
 use Rattle.std.proofs.Common.{inl, inr, arith}
 use Rattle.refusals.specs.declared.Refusal.{Refusal}
-use Rattle.datetext.specs.Grammar.{OrdinalText, YmdText, Fault}
+use Rattle.datetext.specs.Grammar.{OrdinalText, YmdText, Fault, Belongs}
 use Rattle.days.specs.DayByDay.{Month}
 use Rattle.datetext.specs.Promise.{ReadDate}
-use Rattle.datetext.specs.Laws.{sound}
+use Rattle.datetext.proofs.Laws.{sound}
 use Rattle.datetext.specs.declared.Text.{Text}
-use Rattle.datetext.specs.One.{read_one}
-
--- which texts belong to the grammar
-
-pub data Belongs (s : List ℕ) : Type 0 where
-  by_ordinal : {y : ℤ} {n k : ℕ} → OrdinalText s y n k → Belongs s
-  by_day : {y : ℤ} {m d k : ℕ} → YmdText s y m d k → Belongs s
+use Rattle.datetext.proofs.One.{read_one}
 
 -- a text belongs to the grammar or has a fault
 pub belongs_or_faulty : (s : List ℕ) → Belongs s ⊎ ((f : Refusal) × Fault s f)

@@ -3,7 +3,7 @@
 use Rattle.std.specs.Prelude.{ℕ, ◌≡◌, List}
 use Rattle.std.proofs.Common.{sym, ◌∙◌}
 use Rattle.datetext.specs.Promise.{ReadDate}
-use Rattle.datetext.specs.Laws.{complete}
+use Rattle.datetext.proofs.Laws.{complete}
 use Rattle.datetext.specs.declared.Text.{Text}
 
 pub read_one : {s : List ℕ} {r q : Text} → ReadDate s r → ReadDate s q → r ≡ q

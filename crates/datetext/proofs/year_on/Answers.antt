@@ -1,0 +1,16 @@
+-- `datetext::year_on` meets its promise: each arm is given which answer it has, and `after_dash_value` computes there.
+use mir.Facts.{to_z-of_z}
+use mathlib.Core.Path.{ap, ◌∙◌}
+use Rattle.numbertext.specs.Meaning.{dash_is}
+use Rattle.datetext.specs.Reading.{after_dash_value}
+use Rattle.datetext.proofs.year_on.Goals as goal
+
+pub returns-in-Refused : goal.returns-in-Refused
+returns-in-Refused c =
+    let a = c.args in
+    ap (after_dash_value a.text.now a.year) (dash_is c.in-Refused.ensures)
+
+pub returns-in-Next : goal.returns-in-Next
+returns-in-Next c =
+    let a = c.args in
+    (rw (to_z-of_z c.ranges.year) at c.second_on.ensures) ∙ ap (after_dash_value a.text.now a.year) (dash_is c.in-Next.ensures)
