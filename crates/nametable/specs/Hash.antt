@@ -1,5 +1,4 @@
 -- Which chain a name belongs to: one number for each name. Nothing else matters of it, but that names of a catalogue are spread over the chains.
--- Assumes nothing.
 use Rattle.std.specs.Prelude.{◌≡◌, ℕ, zero, suc, ◌+◌, ◌-◌, ◌*◌, ◌/◌, ◌%◌, ◌^◌, ◌<◌, List, length, nat_le, nat_lt, slice_index}
 use Rattle.digits.specs.Promise.{pick}
 

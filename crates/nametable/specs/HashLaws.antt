@@ -1,5 +1,4 @@
 -- Laws of `Hash`: which way each name goes, and that eight equal bytes are what makes two words equal.
--- Assumes nothing.
 use Rattle.std.specs.Prelude.{◌≡◌, ℕ, suc, ◌+◌, ◌-◌, ◌*◌, ◌/◌, ◌<◌, ◌≤◌, List, length, slice_index, refl}
 use Rattle.std.proofs.Math.Path.{sym, ap, ap₂}
 use Rattle.std.proofs.Common.{◌∙◌, arith, le-leb, lt-ltb, le-ltb}

@@ -1,5 +1,4 @@
 -- Of which memory it is true that it holds a list of names with their numbers, and that a name is then found exactly if the list has it.
--- Assumes nothing.
 use Rattle.std.specs.Prelude.{◌≡◌, ℕ, ◌+◌, ◌-◌, ◌*◌, ◌<◌, ◌≤◌, List, length}
 use Rattle.nametable.specs.Limits.{most_lines, most_name, slot, heads}
 use Rattle.nametable.specs.Houses.{House, line_at, name_at}

@@ -1,5 +1,4 @@
 -- A name with its number, and lists of them.
--- Assumes nothing.
 use Rattle.std.specs.Prelude.{ℕ, List, [], ℤ, pos, slice_index_or}
 
 pub record House : Type 0 where

@@ -1,5 +1,4 @@
 -- Why the functions meet their promises: a slot compared, links followed, a name put into its slot.
--- Assumes nothing.
 use Rattle.std.specs.Prelude.{◌≡◌, ℕ, ◌+◌, ◌-◌, ◌*◌, ◌^◌, ◌<◌, ◌≤◌, Bool, true, false, List, length, set, ℤ, slice_index, slice_set, refl}
 use Rattle.std.proofs.Common.{sym, ◌∙◌, ap, subst, arith}
 use Rattle.whole.specs.Promise.{unbias}

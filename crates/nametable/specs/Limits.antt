@@ -1,5 +1,4 @@
 -- The limits of a catalogue, and the layout of its memory that follows from them.
--- Assumes nothing.
 use Rattle.std.specs.Prelude.{ℕ, ◌+◌}
 
 -- lines in a catalogue, and bytes in a name

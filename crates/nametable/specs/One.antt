@@ -1,5 +1,4 @@
 -- Two results that a promise allows are equal, whatever the memory holds.
--- Assumes nothing.
 use Rattle.std.specs.Prelude.{◌≡◌, ℕ, ◌^◌, ◌<◌, Bool, List, length, ℤ, refl}
 use Rattle.std.proofs.Common.{sym, ◌∙◌, ap, subst, arith, ext_get_or}
 use Rattle.whole.specs.Biased.{unbias_injective}

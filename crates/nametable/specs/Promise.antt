@@ -1,6 +1,5 @@
 -- What lent memory stands for: a name has the number that is found along its chain of links. Every content of the memory has a meaning; of which
 -- content it holds a list of names with their numbers is said in `Holds`. A byte is any number below 256.
--- Assumes nothing.
 use Rattle.std.specs.Prelude.{◌≡◌, ℕ, ◌+◌, ◌-◌, ◌*◌, ◌^◌, ◌<◌, ◌≤◌, Bool, true, false, List, length, ℤ, slice_index, slice_index_or, slice_set}
 use Rattle.whole.specs.Promise.{unbias}
 use Rattle.writer.specs.Promise.{put}

@@ -1,6 +1,5 @@
 -- In memory that holds a list a name is found exactly if the list has it, with its number there; cleared memory holds the empty list; and entering a
 -- name keeps what is held and adds the name.
--- Assumes nothing.
 use Rattle.std.specs.Prelude.{◌≡◌, ℕ, ◌+◌, ◌-◌, ◌*◌, ◌^◌, ◌<◌, ◌≤◌, Bool, true, false, List, [], ◌∷◌, ◌++◌, length, take, drop, ℤ, pos, ◌==◌, slice_index, slice_index_or, slice_set, refl}
 use Rattle.std.proofs.Common.{sym, ◌∙◌, ap, subst, ⊎_elim, arith, not-suc-le-zero, length-set, length-append, length-take-le, get_or-append-add, get_or-take, get_or-set_same, get_or-set_other, eqb-true}
 use Rattle.std.proofs.Math.ListN.{get_or-append}

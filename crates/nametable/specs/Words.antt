@@ -1,5 +1,4 @@
 -- Bytes compared eight at a time: two words are equal exactly if their bytes are.
--- Assumes nothing.
 use Rattle.std.specs.Prelude.{◌≡◌, ℕ, zero, suc, ◌+◌, ◌-◌, ◌*◌, ◌<◌, ◌≤◌, List, length, slice_index, slice_index_or}
 use Rattle.std.proofs.Common.{sym, ◌∙◌, ⊎_elim, Fits}
 use Rattle.std.proofs.Math.Path.{ap, ap₂}

@@ -1,0 +1,10 @@
+-- `nametable::same_many` meets its promise.
+use Rattle.nametable.specs.Words.{Passed}
+use Rattle.std.proofs.Common.{◌-◌, length}
+use Rattle.nametable.proofs.same_many.Given as goal
+
+abbrev pub invariant-loop-i : goal.invariant-loop-i
+invariant-loop-i l = Passed l.name l.names l.from l.i
+
+abbrev pub decreases-loop-i : goal.decreases-loop-i
+decreases-loop-i l = length l.name - l.i

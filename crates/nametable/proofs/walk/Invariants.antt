@@ -1,0 +1,10 @@
+-- `nametable::walk` meets its promise.
+use Rattle.nametable.specs.Laws.{Walking}
+use Rattle.nametable.specs.Promise.{memory}
+use Rattle.nametable.proofs.walk.Given as goal
+
+abbrev pub invariant-loop-at : goal.invariant-loop-at
+invariant-loop-at l = Walking (memory l.names l.links) l.name l.from l.at
+
+abbrev pub decreases-loop-at : goal.decreases-loop-at
+decreases-loop-at l = l.at
