@@ -5,7 +5,7 @@ use mir.Syntax.{w32}
 use mir.Val.{to_z, of_z}
 use Rattle.fields.specs.Laws.{all_same}
 use Rattle.fields.specs.declared.Fields.{Fields}
-use Rattle.std.proofs.Common.{◌≡◌, ℤ, SFits, rules}
+use Rattle.std.proofs.Common.{◌≡◌, ℤ, SFits, rules, arith}
 use Rattle.fields.proofs.same_fields.Goals as goal
 
 -- years are the same that have the same bits
@@ -27,9 +27,6 @@ returns-then-a-b-4 c = λ g. c.if-a-b-4.true (ap (λ (a : Fields). a.day) g)
 pub returns-then-a-b-5 : goal.returns-then-a-b-5
 returns-then-a-b-5 c = λ g. c.if-a-b-5.true (ap (λ (a : Fields). a.day_ordinal) g)
 
-pub returns-then-a-b-6 : goal.returns-then-a-b-6
-returns-then-a-b-6 c = λ g. c.if-a-b-6.true (ap (λ (a : Fields). a.style) g)
-
 pub returns : goal.returns
 returns c =
     all_same _ _
@@ -38,4 +35,4 @@ returns c =
     c.if-a-b-3.false
     c.if-a-b-4.false
     c.if-a-b-5.false
-    c.if-a-b-6.false
+    (omega arith)

@@ -7,13 +7,10 @@ use mir.Facts.{to_z-of_z}
 use Rattle.ways.specs.Laws.{last_up, last_down, stays_by}
 use Rattle.ways.proofs.stays.Goals as goal
 
-pub returns-then-day-gt27 : goal.returns-then-day-gt27
-returns-then-day-gt27 c = rw c.if-later.true (λ p. omega (arith, p.0, c.if-day-gt27.true))
-
 pub returns-then-later : goal.returns-then-later
 returns-then-later c =
     let a = c in
-    rw c.if-later.true (stays_by true a.args.day a.args.jdn (eqb c.raised.result 4_294_967_295) c.if-day-gt27.false (last_up c.raised.result c.raised.type_inv (c.raised.ensures ∙ to_z-of_z a.ranges.jdn)))
+    rw c.if-later.true (stays_by true a.args.day a.args.jdn (eqb c.raised.result 4_294_967_295) (omega arith) (last_up c.raised.result c.raised.type_inv (c.raised.ensures ∙ to_z-of_z a.ranges.jdn)))
 
 pub returns-then-day-lt2 : goal.returns-then-day-lt2
 returns-then-day-lt2 c = rw c.if-later.false (λ p. omega (arith, p.0, c.if-day-lt2.true))
