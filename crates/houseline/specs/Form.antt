@@ -1,7 +1,6 @@
 -- A line of a catalogue: a name of 1 to `most_name` capitals, digits and underscores, a tab, an optional `-`, and one digit or more; at most
 -- `longest_read` bytes.
 -- Nothing here reads: each rule says of what parts the bytes are put together. A byte is any number below 256.
--- Assumes nothing.
 use Rattle.std.specs.Prelude.{ℕ, ◌≤◌, ◌<◌, List, [], ◌∷◌, ◌++◌, length, ℤ, pos, neg_ℤ}
 use Rattle.digits.specs.Numerals.{dash, Digit, Numeral}
 use Rattle.whole.specs.Text.{tab}

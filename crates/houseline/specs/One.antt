@@ -1,5 +1,4 @@
 -- A line has the form in one way, and the promise allows one result.
--- Assumes nothing.
 use Rattle.std.specs.Prelude.{ℕ, ◌≡◌, refl, List, length, ℤ, pos, neg_ℤ}
 use Rattle.std.proofs.Common.{sym, ◌∙◌, ap, ap₂, subst}
 use Rattle.digits.specs.Numerals.{Numeral, value_of}

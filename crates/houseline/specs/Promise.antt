@@ -1,6 +1,5 @@
 -- What reading a line promises: the length of its name and its number; or, where the number is outside 32 bits, its refusal as a number in the line; or
 -- that it is no such line.
--- Assumes nothing.
 use Rattle.std.specs.Prelude.{List, ℕ, ◌+◌, length, drop, ℤ}
 use Rattle.std.specs.Int.{w32}
 use Rattle.std.proofs.Common.{SFits}
