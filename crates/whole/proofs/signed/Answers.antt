@@ -1,6 +1,5 @@
 use Prim.Native.Nat.{◌+◌, ◌-◌, ◌^◌}
 use native.Mathlib.Omega.{arith}
-use borrow.Author.Rules.{rules}
 use Rattle.whole.specs.Edge.{biased_minus, biased_plus, narrows_below, narrows_above, narrows_fits}
 use Rattle.whole.proofs.signed.Goals as goal
 
