@@ -1,10 +1,10 @@
 -- What the private functions say, of days and years that are biased as naturals.
 use Rattle.std.specs.Prelude.{◌≡◌, Bool, cond, ◌⊎◌, ℤ, pos, ℕ, zero, suc, ◌+◌, ◌-◌, ◌*◌, ◌<◌, ◌≤◌, ltb, eqb}
 use Rattle.days.specs.BiasedDays.{day, year}
-use Rattle.days.proofs.ClosedJulian as J
-use Rattle.days.proofs.ClosedGregorian as G
+use Rattle.days.specs.ClosedJulian as J
+use Rattle.days.specs.ClosedGregorian as G
 use Rattle.days.specs.ClosedNumbers.{There, days_before_value, ThereIn}
-use Rattle.days.proofs.ClosedStarts as Starts
+use Rattle.days.specs.ClosedStarts as Starts
 use Rattle.days.specs.ClosedRuns.{Runs, top, ComesBefore, year_first, month_first_value}
 use Rattle.inner.specs.Natural.{biased_year_value}
 use Rattle.monthdays.specs.Promise.{MonthDayAt}

@@ -1,6 +1,6 @@
 -- What follows from the promises of the calendar calls, for every accepted calendar.
 -- Assumes nothing.
-use Rattle.std.specs.Prelude.{◌≡◌, refl, ◌⊎◌, ℕ, ◌≤◌, ◌<◌, ℤ}
+use Rattle.std.specs.Prelude.{◌≡◌, refl, ℕ, ◌≤◌, ◌<◌, ℤ}
 use Rattle.std.proofs.Common.{sym, ◌∙◌, ap, subst, ⊎_elim, arith}
 use Rattle.std.proofs.Math.IntN.{suc_ℤ, pred_ℤ, pred-suc, suc-pred}
 use Rattle.days.specs.DayByDay.{Label, label, Timeline, labels_in, style_in, OfYear, Place, Is32Bit, Month, Rising}
@@ -111,6 +111,7 @@ record_genuine {c} {t = t} acc i = record {
 -- an accepted calendar refuses no day
 pub never_refused : {c : Calendar} {n : ℤ} {f : Refusal} → Accepted c → AtJdn c n (Dated'.Refused f) → ⊥
 never_refused a (refuses x) = x a
+never_refused {c = c} {n = n} {f = f} a (passes _ x3) = elim x3 [ ]
 
 -- ---- at_jdn after at_ymd gives the same record, and the other way round
 pub jdn_after_ymd : (c : Calendar) → Accepted c → {y : ℤ} {m d : ℕ} {t : Date} {a : Dated} → AtYmd c y m d (Dated'.Date t) → AtJdn c t.jdn a → a ≡ Dated'.Date t

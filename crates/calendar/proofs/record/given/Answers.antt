@@ -1,0 +1,21 @@
+-- `calendar::record::given` meets its promise.
+use borrow.Author.Rules.{rules}
+use mir.Syntax.{w32}
+use mir.Val.{SFits}
+use mir.Facts.{to_z-of_z}
+use Rattle.calendar.specs.One.{whole}
+use Rattle.calendar.specs.Laws.{given_place, given_far, given_none}
+use Rattle.calendar.proofs.record.given.Goals as goal
+
+pub returns-in-Day : goal.returns-in-Day
+unfolding whole
+returns-in-Day c =
+    let f : SFits w32 c.in-Day.jdn = search rules in
+    rw (to_z-of_z c.ranges.year, to_z-of_z f) (given_place c.args.calendar c.args.p c.in-Day.ensures c.requires.1)
+
+pub returns-in-Nothing : goal.returns-in-Nothing
+returns-in-Nothing c = absurd (given_none c.in-Nothing.is c.day_number.ensures)
+
+pub returns-in-Outside32 : goal.returns-in-Outside32
+returns-in-Outside32 c =
+    rw (c.refused_year-in-Outside32.ensures, to_z-of_z c.ranges.year) (given_far c.args.calendar c.in-Outside32.ensures)

@@ -1,0 +1,14 @@
+-- `calendar::record::label_place` meets its promise.
+use Rattle.calendar.proofs.record.label_place.Goals as goal
+
+pub plain_label-requires : goal.plain_label-requires
+plain_label-requires c = c.requires.0
+
+pub later_label-requires : goal.later_label-requires
+later_label-requires c = (c.requires.1, c.in-Later.ensures)
+
+pub returns-in-At : goal.returns-in-At
+returns-in-At c = c.in-At.ensures
+
+pub returns-in-Refused : goal.returns-in-Refused
+returns-in-Refused c = c.in-Refused.ensures

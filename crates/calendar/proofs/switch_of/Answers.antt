@@ -1,0 +1,33 @@
+-- `calendar::switch_of` meets its promise, variant by variant.
+use borrow.Author.Rules.{rules}
+use mathlib.Core.Path.{sym, subst}
+use lib.IntN.{ℤ}
+use mir.Syntax.{w32}
+use mir.Val.{SFits}
+use mir.Facts.{to_z-of_z}
+use Rattle.days.proofs.ClosedRuns.{julian_runs, gregorian_runs}
+use Rattle.switches.specs.Promise.{Judges}
+use Rattle.switches.specs.declared.reformation.Judgement.TheVariants as Judgement'
+use Rattle.calendar.specs.Laws.{switch_accepted, switch_refused}
+use Rattle.calendar.specs.Natural.{SwitchIs, switches_at}
+use Rattle.calendar.specs.declared.Calendar.{Calendar}
+use Rattle.calendar.specs.declared.Switch.TheVariants as Switch'
+use Rattle.calendar.proofs.switch_of.Goals as goal
+
+pub returns-in-Julian : goal.returns-in-Julian
+returns-in-Julian c = subst (λ (x : Calendar). SwitchIs x (Switch'.At 4_000_000_000_000)) (sym c.in-Julian.is) (switches_at julian_runs)
+
+pub returns-in-Gregorian : goal.returns-in-Gregorian
+returns-in-Gregorian c = subst (λ (x : Calendar). SwitchIs x (Switch'.At 0)) (sym c.in-Gregorian.is) (switches_at gregorian_runs)
+
+pub returns-in-Accepted : goal.returns-in-Accepted
+returns-in-Accepted c =
+    let f : SFits w32 c.in-Reforming.r = search rules in
+    subst (λ (x : Calendar). SwitchIs x (Switch'.At c.in-Accepted.day)) (sym c.in-Reforming.is)
+    (switch_accepted (subst (λ (r : ℤ). Judges r (Judgement'.Accepted c.in-Accepted.day)) (to_z-of_z f) c.in-Accepted.ensures))
+
+pub returns-in-Refused : goal.returns-in-Refused
+returns-in-Refused c =
+    let f : SFits w32 c.in-Reforming.r = search rules in
+    subst (λ (x : Calendar). SwitchIs x Switch'.MadeUp) (sym c.in-Reforming.is)
+    (switch_refused (subst (λ (r : ℤ). Judges r (Judgement'.Refused c.in-Refused.field-0)) (to_z-of_z f) c.in-Refused.ensures))
