@@ -35,7 +35,7 @@ advances_one (Advances.none_left i) (Advances.none_left j) = (refl, refl)
 
 pub next_turn_one : {b l : List ℕ} {s : State} {e : Event} {k m : List ℕ} {r q : Turn} → NextTurn b l s e k r → NextTurn b l s e m q → (k ≡ m) × (r ≡ q)
 next_turn_one (NextTurn.works_on x) (NextTurn.works_on y) = advances_one x y
-next_turn_one NextTurn.last_Line NextTurn.last_Line = (refl, refl)
+next_turn_one NextTurn.last_line NextTurn.last_line = (refl, refl)
 next_turn_one NextTurn.cannot_read NextTurn.cannot_read = (refl, refl)
 next_turn_one NextTurn.cannot_write NextTurn.cannot_write = (refl, refl)
 next_turn_one NextTurn.ends NextTurn.ends = (refl, refl)

@@ -121,7 +121,7 @@ module _ (Out : List ℕ → List ℕ → Type 0) (unread unwritten : List ℕ) 
 
   reading_turn : {s s' : State} {a b l l' o o' i t : List ℕ} (c : List ℕ) → length c ≤ block_size → take (length c) b ≡ c → GoesOn Out unread unwritten b l o s (event_in Reading s.at s.count true (pos (length c))) l' o' s' → After s' b l' o' i t s'.phase
       → After s a l o (c ++ i) (take s.used o ++ t) Reading
-  reading_turn {s} [] h e (GoesOn.goes_on NextTurn.last_Line y) q = After.reading (end_goes s.held y q) refl
+  reading_turn {s} [] h e (GoesOn.goes_on NextTurn.last_line y) q = After.reading (end_goes s.held y q) refl
   reading_turn {b = b} {i = i} (x ∷ c) h e (GoesOn.goes_on (NextTurn.works_on a) y) q = After.reading (goes_same (ap (λ (z : List ℕ). z ++ i) (ap (λ (k : ℕ). take k b) (min-eq_left h) ∙ e)) refl (advance_goes a y q)) refl
 
   turn_follows : (p : Phase) {s s' : State} {b b' l l' o o' i t : List ℕ} (c : List ℕ) → goes_on_value p ≡ true → Reads (room_of p true) b c b' → GoesOn Out unread unwritten b' l o s (event_in p s.at s.count true (pos (length c))) l' o' s' → After s' b' l' o' i t s'.phase
