@@ -1,0 +1,13 @@
+-- `dateparse::write_date` meets its promise.
+use borrow.Author.Rules.{rules}
+use mir.Syntax.{w32}
+use mir.Facts.{to_z-of_z}
+use Rattle.calendar.specs.Rows.{refuses, passes}
+use Rattle.dateparse.proofs.write_date.Goals as goal
+
+pub returns-then-is_genuine : goal.returns-then-is_genuine
+returns-then-is_genuine c =
+    passes (rw c.if-is_genuine.true at c.is_genuine.ensures) (rw (to_z-of_z {w = w32} {z = c.args.date.year} (search rules)) at c.write_ymd.ensures)
+
+pub returns : goal.returns
+returns c = rw c.refusal_of.ensures (refuses (rw c.if-is_genuine.false at c.is_genuine.ensures))
