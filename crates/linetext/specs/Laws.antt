@@ -1,5 +1,4 @@
 -- Numbers written one after another into a lent buffer, and a whole line of them.
--- Assumes nothing.
 use Rattle.std.specs.Prelude.{ℕ, suc, ◌+◌, ◌-◌, ◌*◌, ◌/◌, ◌%◌, ◌≤◌, ◌<◌, ◌^◌, ◌≡◌, refl, Bool, true, false, List, [], ◌∷◌, ◌++◌, length, take, drop, ℤ, pos, nat_abs}
 use Rattle.std.proofs.Common.{sym, ◌∙◌, ap, ap₂, subst, append_assoc, arith, length-append, take_at}
 use Rattle.whole.specs.Promise.{is_negative_value}
@@ -139,11 +138,17 @@ put_eight {n} h l t s = text_as (text_then t (put_text {P = λ (v : List ℕ). v
 -- a number that was put with room for twenty digits
 module _ {n : ℕ} {b : List ℕ} {at : ℕ} (fits : n < 2 ^ 64) where
   pub large_done : {b' : List ℕ} {i : ℕ} → Writes (Signs false n) b at b' (Written.Done i) → Text (Signs false n) 20 b at b' i
-  large_done (Writes.writes (Signs.signs {k} w) (Puts.done h)) =
-      record { text = digits_of k n; is = Signs.signs w; short = omega (arith, length_digits k n, width_few w fits); put = record { is = refl; offset = refl } }
+  large_done (Writes.writes (Signs.signs {k} w) p) = by p
+    where
+      by : {c : List ℕ} {j : ℕ} → Puts (digits_of k n) b at c (Written.Done j) → Text (Signs false n) 20 b at c j
+      by (Puts.done h) =
+          record { text = digits_of k n; is = Signs.signs w; short = omega (arith, length_digits k n, width_few w fits); put = record { is = refl; offset = refl } }
 
   pub large_never : {b' : List ℕ} {f : Refusal} → at + 20 ≤ length b → Writes (Signs false n) b at b' (Written.Refused f) → ⊥
-  large_never h (Writes.writes (Signs.signs {k} w) (Puts.short l)) = omega (arith, length_digits k n, width_few w fits)
+  large_never {b'} {f} h (Writes.writes (Signs.signs {k} w) p) = by p
+    where
+      by : {c : List ℕ} {g : Refusal} → Puts (digits_of k n) b at c (Written.Refused g) → ⊥
+      by (Puts.short l) = omega (arith, length_digits k n, width_few w fits)
 
 -- a sign, and the digits
 pub put_minus : {neg : Bool} {n : ℕ} {b : List ℕ} {at : ℕ} {b₁ b₂ : List ℕ} {i j : ℕ} → neg ≡ true → at + 21 ≤ length b → PutText b at (dash ∷ []) b₁ i → Text (Signs false n) 20 b₁ i b₂ j → Text (Signs neg n) 21 b at b₂ j

@@ -1,5 +1,4 @@
 -- A line of the listing: the numbers of a day and the letters of its style, or the numbers of a refusal, in columns.
--- Assumes nothing.
 use Rattle.std.specs.Prelude.{ℕ, ◌/◌, ◌%◌, List, [], ◌∷◌, ◌++◌, ℤ, pos}
 use Rattle.whole.specs.Text.{tab, newline}
 use Rattle.refusals.specs.declared.Refusal.{Refusal}

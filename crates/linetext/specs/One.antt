@@ -1,5 +1,4 @@
 -- A line has one text, and two results that a promise allows for one input are equal.
--- Assumes nothing.
 use Rattle.std.specs.Prelude.{ℕ, ◌≡◌, List, [], ◌∷◌, ◌++◌, ℤ}
 use Rattle.std.proofs.Common.{ap, ap₂}
 use Rattle.writer.specs.Promise.{Writes}
@@ -12,6 +11,8 @@ use Rattle.linetext.specs.declared.Line.{Line}
 
 columns_one : {xs : List ℤ} {t u : List ℕ} → Columns xs t → Columns xs u → t ≡ u
 columns_one (Columns.one w) (Columns.one v) = whole_one w v
+columns_one (Columns.one w) (Columns.more v d) = elim d [ ]
+columns_one (Columns.more w c) (Columns.one v) = elim c [ ]
 columns_one (Columns.more w c) (Columns.more v d) = ap₂ (λ (t u : List ℕ). t ++ (tab ∷ u)) (whole_one w v) (columns_one c d)
 
 line_text_one : {l : Line} {t u : List ℕ} → LineText l t → LineText l u → t ≡ u

@@ -1,5 +1,4 @@
 -- What `put_line` promises to write: a line with its newline, no longer than the longest one.
--- Assumes nothing.
 use Rattle.std.specs.Prelude.{ℕ, ◌≤◌, List, length}
 use Rattle.linetext.specs.declared.Line.{Line}
 use Rattle.linetext.specs.Line.{longest_line, Ended}
