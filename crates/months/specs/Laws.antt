@@ -317,6 +317,7 @@ pub nth_refused : {c : Calendar} {z : ℤ} {m k : ℕ} {f : Refusal} → NthDay 
 nth_refused (refuses x) = refuses x
 nth_refused (passes a (refuses x)) = passes a (refuses x)
 nth_refused (passes a (passes v (refuses x))) = passes a (passes v (refuses x))
+nth_refused {c = c} {z = z} {m = m} {k = k} {f = f} (passes a (passes v (passes _ x7))) = elim x7 [ ]
 
 pub nth_date_row : {c : Calendar} {z : ℤ} {m k d : ℕ} {a : Dated} → NthDay c z m k (Counted'.Number d) → AtYmd c z m d a → NthDate c z m k a
 nth_date_row (passes x (passes v (passes n (P.number (i, p, e))))) (refuses y) = absurd (y x)

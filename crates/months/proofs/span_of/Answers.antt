@@ -1,0 +1,15 @@
+-- `months::span_of` meets its promise.
+use mathlib.Core.Path.{◌∙◌}
+use mir.Facts.{to_z-of_z}
+use Rattle.inner.specs.Laws.{biased_year, raised_year_biased}
+use Rattle.calendar.specs.Laws.{switch_runs, switch_made_up}
+use Rattle.months.specs.Laws.{span_made}
+use Rattle.months.specs.Natural.{no_calendar}
+use Rattle.months.proofs.span_of.Goals as goal
+
+pub returns-in-MadeUp : goal.returns-in-MadeUp
+returns-in-MadeUp c = rw c.refusal_with.ensures (no_calendar (switch_made_up _ c.in-MadeUp.ensures))
+
+pub returns-in-At : goal.returns-in-At
+returns-in-At c =
+    span_made _ (switch_runs _ c.in-At.ensures) (raised_year_biased c.raised.type_inv) (biased_year c.raised.result ∙ c.raised.ensures ∙ to_z-of_z c.ranges.year) c.month_span.ensures
