@@ -1,0 +1,9 @@
+-- `ncal::named` meets its promise.
+use Rattle.ncal.specs.Laws.{is_named, not_named}
+use Rattle.ncal.proofs.named.Goals as goal
+
+pub returns-in-Calendar : goal.returns-in-Calendar
+returns-in-Calendar c = is_named (rw c.in-Calendar.is at c.look_up.ensures)
+
+pub returns-in-Nothing : goal.returns-in-Nothing
+returns-in-Nothing c = rw c.refusal_of.ensures (not_named (rw c.in-Nothing.is at c.look_up.ensures))
