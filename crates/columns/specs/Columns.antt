@@ -1,5 +1,4 @@
 -- The columns of the listing, as the scope has them: the numbers that stand in the line of an answer, and the header over them.
--- Assumes nothing.
 use Rattle.std.specs.Prelude.{ℕ, ◌+◌, ◌*◌, List}
 use Rattle.days.specs.DayByDay.{weekday}
 use Rattle.calendar.specs.declared.Style.{Style}

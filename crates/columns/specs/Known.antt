@@ -1,5 +1,4 @@
 -- The letters that stand in the column `style`.
--- Assumes nothing.
 use Rattle.std.specs.Prelude.{◌≡◌, refl}
 use Rattle.whole.specs.Text.{bytes}
 use Rattle.calendar.specs.declared.Style.TheVariants as Style'

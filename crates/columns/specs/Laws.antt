@@ -1,5 +1,4 @@
 -- Why a line and the header are what was promised.
--- Assumes nothing.
 use Rattle.std.specs.Prelude.{ℕ, ◌≡◌, List, length, ℤ, pos}
 use Rattle.std.proofs.Common.{sym}
 use Rattle.days.specs.DayByDay.{weekday}

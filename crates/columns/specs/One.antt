@@ -1,5 +1,4 @@
 -- Two results that a promise allows for one input are equal, and a line has one text for one answer. The promise of `line_of` is an equation.
--- Assumes nothing.
 use Rattle.std.specs.Prelude.{ℕ, ◌≡◌, List}
 use Rattle.std.proofs.Common.{sym, ◌∙◌, subst}
 use Rattle.calendar.specs.declared.Dated.{Dated}

@@ -1,5 +1,4 @@
 -- What `put_header` promises. `line_of` answers with `line_of` of `Columns`.
--- Assumes nothing.
 use Rattle.std.specs.Prelude.{ℕ, ◌≡◌, List}
 use Rattle.writer.specs.Promise.{Writes}
 use Rattle.writer.specs.declared.Written.{Written}
