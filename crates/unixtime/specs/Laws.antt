@@ -118,6 +118,7 @@ no_day_row {t} e (outside_32 n) = subst (λ (u : ℤ). Unix2Jdn t (refused_time 
 
 pub timed_refused : (c : Calendar) {t : ℤ} {f : Refusal} → Accepted c → Unix2Jdn t (DayTime'.Refused f) → AtUnixTime c t (Timed'.Refused f)
 timed_refused c a (refuses x) = passes a (refuses x)
+timed_refused c a (passes _ none) = elim none [ ]
 
 pub timed_row : (c : Calendar) {t n : ℤ} {s : ℕ} {d : Date} → Accepted c → Unix2Jdn t (DayTime'.At n s) → AtJdn c n (Dated'.Date d) → AtUnixTime c t (Timed'.At d s)
 timed_row c a (passes o (day_time_of u)) (passes b (record_of i)) = passes a (passes o (timed_of u i))
