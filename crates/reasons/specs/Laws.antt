@@ -1,5 +1,4 @@
 -- What the proofs need: from the answers of the calls below to the reasons.
--- Assumes nothing.
 use Rattle.std.specs.Prelude.{◌≡◌, refl, Bool, true, false, not, cond, List, ◌⊎◌, ℕ, suc, ◌+◌, ◌<◌, ℤ, pos, negsuc, ◌-ℤ◌, take, ◌<ℤ◌, ◌≤ℤ◌}
 use Rattle.std.proofs.Common.{sym, ◌∙◌, ap, subst, ⊎_elim, arith, eq-eqb, ne_eqb}
 use Rattle.std.proofs.Math.IntN.{+ℤ_idr}
@@ -18,9 +17,7 @@ use Rattle.days.proofs.KnownDays.{known_days}
 use Rattle.calendar.specs.declared.Calendar.{Calendar}
 use Rattle.calendar.specs.declared.Calendar.TheVariants as Calendar'
 use Rattle.calendar.specs.declared.Date.{Date}
-use Rattle.calendar.specs.declared.Dated.{Dated}
 use Rattle.calendar.specs.declared.Dated.TheVariants as Dated'
-use Rattle.calendar.specs.declared.ReformDate.{ReformDate}
 use Rattle.calendar.specs.declared.ReformDate.TheVariants as ReformDate'
 use Rattle.calendar.specs.declared.Counted.TheVariants as Counted'
 use Rattle.calendar.specs.Calendars.{definition_of, timeline, labels, Accepted, IsRecordIn, IsRecord, Skipped}
@@ -107,6 +104,7 @@ module _ (c : Calendar) (a : Accepted c) (y : ℤ) (m d k : ℕ) (v : Month m) w
   ymd_missing (passes b (passes w (refuses n))) e = n
   ymd_missing (passes b (passes w (passes f (refuses n)))) e = absurd (omega arith)
   ymd_missing (passes b (passes w (passes f (passes g (on_label i (refuses n)))))) e = absurd (omega arith)
+  ymd_missing (passes b (passes w (passes f (passes g (on_label i (passes _ x)))))) e = elim x [ ]
 
   pub ymd_skipped : {f : Refusal} → AtYmd c y m d (Dated'.Refused f) → f.number ≡ 5 → Skipped c (label y m d)
   ymd_skipped (refuses n) e = absurd (n a)
@@ -114,6 +112,7 @@ module _ (c : Calendar) (a : Accepted c) (y : ℤ) (m d k : ℕ) (v : Month m) w
   ymd_skipped (passes b (passes w (refuses n))) e = absurd (omega arith)
   ymd_skipped (passes b (passes w (passes f (refuses n)))) e = n
   ymd_skipped (passes b (passes w (passes f (passes g (on_label i (refuses n)))))) e = absurd (omega arith)
+  ymd_skipped (passes b (passes w (passes f (passes g (on_label i (passes _ x)))))) e = elim x [ ]
 
   pub ymd_outside : {f : Refusal} → AtYmd c y m d (Dated'.Refused f) → ¬ (f.number ≡ 4) → ¬ (f.number ≡ 5) → OfYmd (timeline c) c y m d k (Reason'.Outside (refusal 7 0 y) (not (is_negative_value y)))
   ymd_outside (refuses n) h i = absurd (n a)
@@ -121,6 +120,7 @@ module _ (c : Calendar) (a : Accepted c) (y : ℤ) (m d k : ℕ) (v : Month m) w
   ymd_outside (passes b (passes w (refuses n))) h i = absurd (h refl)
   ymd_outside (passes b (passes w (passes f (refuses n)))) h i = absurd (i refl)
   ymd_outside (passes b (passes w (passes f (passes g (on_label {n} e (refuses out)))))) h i = OfYmd.borne e (OnDay.outside {above = not (is_negative_value y)} (end_passed c a n y (year_is e) out))
+  ymd_outside (passes b (passes w (passes f (passes g (on_label e (passes _ x)))))) h i = elim x [ ]
 
   pub missing_row : {r : Runs} → MissingIn (timeline c) (label y m d) → RunsOf c y m (MonthDays'.Are r) → OfYmd (timeline c) c y m d k (Reason'.Missing (refusal 4 k (pos d)) y m r)
   missing_row n (passes b (passes w (are_runs p))) = OfYmd.missing n p
@@ -128,6 +128,7 @@ module _ (c : Calendar) (a : Accepted c) (y : ℤ) (m d k : ℕ) (v : Month m) w
   pub runs_refused : {f : Refusal} → RunsOf c y m (MonthDays'.Refused f) → ⊥
   runs_refused (refuses n) = n a
   runs_refused (passes b (refuses n)) = n v
+  runs_refused (passes b (passes _ x)) = elim x [ ]
 
 -- ---- The gap of a skipped label, which is at the one switch of the calendar
 
@@ -161,6 +162,7 @@ never_side c s (passes x p) = by p s
 
 pub refused_side : {i : ℤ} (c : Calendar) {f : Refusal} → Accepted c → Unless (Accepted c) (ReformDate'.Refused made_up) (ReformRecord i c) (ReformDate'.Refused f) → ⊥
 refused_side c a (refuses n) = n a
+refused_side c a (passes _ x) = elim x [ ]
 
 pub skipped_ymd : {c : Calendar} {y : ℤ} {m d k : ℕ} {r : Reason} → Skipped c (label y m d) → AroundGap c d k r → OfYmd (timeline c) c y m d k r
 skipped_ymd s (AroundGap.around_gap g) = OfYmd.skipped (g _ s)
@@ -175,17 +177,20 @@ module _ (c : Calendar) (a : Accepted c) (y : ℤ) (o k : ℕ) where
   ordinal_off (refuses n) e = absurd (n a)
   ordinal_off (passes b (refuses n)) e = n
   ordinal_off (passes b (passes f (on_ordinal i p (refuses n)))) e = absurd (omega arith)
+  ordinal_off (passes b (passes f (on_ordinal i p (passes _ x)))) e = elim x [ ]
 
   pub ordinal_outside : {f : Refusal} → AtOrdinal c y o (Dated'.Refused f) → ¬ (f.number ≡ 6) → OfOrdinal (timeline c) c y o k (Reason'.Outside (refusal 7 0 y) (not (is_negative_value y)))
   ordinal_outside (refuses n) h = absurd (n a)
   ordinal_outside (passes b (refuses n)) h = absurd (h refl)
   ordinal_outside (passes b (passes f (on_ordinal {n} e p (refuses out)))) h = OfOrdinal.in_year e p (OnDay.outside {above = not (is_negative_value y)} (end_passed c a n y e out))
+  ordinal_outside (passes b (passes f (on_ordinal e p (passes _ x)))) h = elim x [ ]
 
   pub length_row : {l : ℕ} → OffYear c y o → YearLengthOf c y (Counted'.Number l) → OfOrdinal (timeline c) c y o k (Reason'.OffYear (refusal 6 k (pos o)) y l)
   length_row (n, p, h) (passes b (number q)) = OfOrdinal.off_year q (subst (λ (n : ℕ). (o ≡ 0) ⊎ (n < o)) (days_one p q) h)
 
   pub length_refused : {f : Refusal} → YearLengthOf c y (Counted'.Refused f) → ⊥
   length_refused (refuses n) = n a
+  length_refused (passes _ x) = elim x [ ]
 
 -- ---- A text that is no date
 

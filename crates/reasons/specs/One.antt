@@ -1,5 +1,4 @@
 -- Two reasons that hold are equal: so no other one holds, earlier in the table of refusals or later.
--- Assumes nothing.
 use Rattle.std.specs.Prelude.{◌≡◌, refl, Bool, true, false, List, ◌⊎◌, ℕ, ◌<◌, ℤ, pos, negsuc, ◌-ℤ◌, take, ◌<ℤ◌}
 use Rattle.std.proofs.Common.{sym, ◌∙◌, ap, ap₂, subst, ⊎_elim, arith}
 use Rattle.std.specs.Int.Signed.{clash_ℤ}
@@ -21,7 +20,6 @@ use Rattle.calendar.specs.RowLaws.{One}
 use Rattle.numbertext.specs.Numerals.{NoSigned}
 use Rattle.datetext.specs.Grammar.{Belongs, Fault}
 use Rattle.datetext.proofs.Theorems as T
-use Rattle.expected.specs.declared.Expected.{Expected}
 use Rattle.expected.specs.Promise.{Expects}
 use Rattle.expected.specs.One.{expects_one}
 use Rattle.monthruns.specs.One.{has_runs_one}

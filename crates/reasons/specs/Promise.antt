@@ -1,6 +1,5 @@
 -- What holds for each reason: of the calendar, in the words of the day-by-day definition; of the text, in those of the grammar. No reason is said by what
 -- another is not, but for 4, which is said so in the scope.
--- Assumes nothing.
 use Rattle.std.specs.Prelude.{◌≡◌, Bool, true, false, cond, List, ◌⊎◌, ℕ, suc, ◌<◌, eqb, ℤ, pos, negsuc, ◌-ℤ◌, take, ◌<ℤ◌}
 use Rattle.whole.specs.Whether.{Whether}
 use Rattle.refusals.specs.declared.Refusal.{Refusal}

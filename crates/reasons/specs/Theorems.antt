@@ -1,7 +1,6 @@
 -- THE THEOREMS ON THE REASONS. The reason that holds is the reason for the answer of `parse_date`: it names the record, or the refusal, that `parse_date`
 -- gives for the same calendar and text (`reason_of_answer`). A fault stands in its text, or at the end of it (`fault_inside`), and what could have stood
 -- there is told of such a place too, or of the next one (`mended_inside`). That exactly one reason holds is in `One`.
--- Assumes nothing.
 use Rattle.std.specs.Prelude.{◌≡◌, refl, Bool, true, false, cond, List, ◌∷◌, ◌++◌, ℕ, suc, ◌+◌, ◌≤◌, eqb, length, ℤ}
 use Rattle.std.proofs.Common.{subst, arith, length-append}
 use Rattle.days.specs.DayByDay.{Timeline, Rising, Month}

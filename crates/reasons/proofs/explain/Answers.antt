@@ -1,0 +1,36 @@
+-- `reasons::explain` meets its promise.
+use mir.Facts.{to_z-of_z}
+use mir.Syntax.{w32}
+use borrow.Author.Rules.{rules}
+use Rattle.calendar.specs.Calendars.{Accepted}
+use Rattle.calendar.specs.Laws.{switch_runs, switch_made_up}
+use Rattle.reasons.specs.Laws.{is_faulty, is_ordinal, is_ymd, is_month}
+use Rattle.reasons.specs.Promise.{Explains}
+use Rattle.reasons.proofs.explain.Goals as goal
+use Rattle.reasons.proofs.explain.Goals.{After-read_date}
+
+accepted : (c : After-read_date) → Accepted c.args.calendar
+accepted c = (switch_runs _ c.in-At.ensures).accepted
+
+pub of_fault-requires : goal.of_fault-requires
+of_fault-requires c = is_faulty c.in-Refused.ensures
+
+pub of_ordinal-requires : goal.of_ordinal-requires
+of_ordinal-requires c = accepted (goal.at.of_ordinal-requires c).After-read_date
+
+pub of_ymd-requires : goal.of_ymd-requires
+of_ymd-requires c = (accepted (goal.at.of_ymd-requires c).After-read_date, is_month c.in-Ymd.ensures)
+
+pub returns-in-MadeUp : goal.returns-in-MadeUp
+returns-in-MadeUp c = Explains.made_up (switch_made_up _ c.in-MadeUp.ensures)
+
+pub returns-in-Refused : goal.returns-in-Refused
+returns-in-Refused c = Explains.faulty (accepted (goal.at.returns-in-Refused c).After-read_date) c.of_fault.ensures
+
+pub returns-in-Ordinal : goal.returns-in-Ordinal
+returns-in-Ordinal c =
+    Explains.by_ordinal (accepted (goal.at.returns-in-Ordinal c).After-read_date) (is_ordinal c.in-Ordinal.ensures) (rw (to_z-of_z {w = w32} {z = c.in-Ordinal.year} (search rules)) at c.of_ordinal.ensures)
+
+pub returns-in-Ymd : goal.returns-in-Ymd
+returns-in-Ymd c =
+    Explains.by_ymd (accepted (goal.at.returns-in-Ymd c).After-read_date) (is_ymd c.in-Ymd.ensures) (rw (to_z-of_z {w = w32} {z = c.in-Ymd.year} (search rules)) at c.of_ymd.ensures)
