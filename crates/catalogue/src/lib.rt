@@ -79,6 +79,7 @@ fn refused_reformation(number: u32, n: usize, r: i32) -> Refusal
 }
 
 // A line that has the form, and whose number fits: its name ends at `end`.
+#[tactic(auto, using(crate::proofs::Laws::house_over_told))]
 fn add_house(
     names: &mut Names,
     links: &mut Links,

@@ -7,7 +7,7 @@ use Rattle.refusals.specs.declared.Refusal.{Refusal}
 use Rattle.textlines.specs.One.{takes_rest_one, takes_line_one, rest_or_line}
 use Rattle.nametable.specs.Promise.{Memory}
 use Rattle.catalogue.specs.declared.Added.{Added}
-use Rattle.catalogue.specs.One.{adds_one}
+use Rattle.catalogue.proofs.One.{adds_one}
 use Rattle.catalogueread.specs.Promise.{AddsHeld, ReadState, read_state, Reached, going, stopped, ReadsNext, ReadsBlock, ReadsLast}
 
 adds_held_one : {m : Memory} {n : ℕ} {l : List ℕ} {h : ℕ} {m₁ m₂ : Memory} {a b : Added} → AddsHeld m n l h m₁ a → AddsHeld m n l h m₂ b → (m₁ ≡ m₂) × (a ≡ b)

@@ -21,7 +21,7 @@ use Rattle.houseline.specs.Laws.{form_long}
 use Rattle.catalogue.specs.declared.Added.{Added}
 use Rattle.catalogue.specs.declared.Added.TheVariants as Added'
 use Rattle.catalogue.specs.Promise.{Adds, made_up, adds, left_as}
-use Rattle.catalogue.specs.Theorems.{adds_holds, Reading, read_all, read_on, read_refused, Read, reads_catalogue, read_one}
+use Rattle.catalogue.proofs.Theorems.{adds_holds, Reading, read_all, read_on, read_refused, Read, reads_catalogue, read_one}
 use Rattle.catalogueread.specs.Promise.{AddsHeld, ReadState, read_state, Reached, going, stopped, ReadsNext, ReadsBlock, ReadsLast}
 
 -- ---- a line that is held comes to what its bytes come to

@@ -10,7 +10,7 @@ use Rattle.dateparse.specs.Promise.{ParseDate}
 use Rattle.dateparse.specs.Theorems.{every_calendar}
 use Rattle.nametable.specs.Houses.{House, line_at}
 use Rattle.catalogue.specs.Catalogue.{catalogue, Means}
-use Rattle.catalogue.specs.Theorems.{catalogue_accepted}
+use Rattle.catalogue.proofs.Theorems.{catalogue_accepted}
 
 -- the calendar of line k
 abbrev pub calendar_at : List House → ℕ → Calendar

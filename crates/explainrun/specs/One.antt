@@ -8,8 +8,8 @@ use Rattle.nametable.specs.Promise.{Memory}
 use Rattle.filter.specs.declared.Event.{Event}
 use Rattle.filter.specs.declared.State.{State}
 use Rattle.catalogue.specs.Catalogue.{catalogue, refused_by, NamesWith}
-use Rattle.catalogue.specs.One.{means_one, names_in_one}
-use Rattle.catalogue.specs.Theorems.{names_with_one}
+use Rattle.catalogue.proofs.One.{means_one, names_in_one}
+use Rattle.catalogue.proofs.Theorems.{names_with_one}
 use Rattle.explaining.specs.Paragraph.{Paragraph}
 use Rattle.explaining.specs.One.{paragraph_one}
 use Rattle.linerun.specs.Promise.{LinesOut}

@@ -9,7 +9,7 @@ use Rattle.filter.specs.declared.State.{State}
 use Rattle.textlines.specs.Lines.{longest_read}
 use Rattle.entry.specs.Promise.{Naming}
 use Rattle.catalogue.specs.Promise.{NamesIn}
-use Rattle.catalogue.specs.Theorems.{named_with}
+use Rattle.catalogue.proofs.Theorems.{named_with}
 use Rattle.cataloguerun.specs.declared.CatalogueRun.{CatalogueRun}
 use Rattle.cataloguerun.specs.Theorems.{ComesTo, ready, refused}
 use Rattle.explaining.specs.Paragraph as P

@@ -7,8 +7,8 @@ use Rattle.refusals.specs.declared.Refusal.{Refusal}
 use Rattle.calendar.specs.RowLaws.{One}
 use Rattle.nametable.specs.Houses.{House}
 use Rattle.catalogue.specs.Catalogue.{catalogue, refused_by, NamesWith}
-use Rattle.catalogue.specs.One.{means_one}
-use Rattle.catalogue.specs.Theorems.{names_with_one}
+use Rattle.catalogue.proofs.One.{means_one}
+use Rattle.catalogue.proofs.Theorems.{names_with_one}
 use Rattle.writer.specs.Promise.{put}
 use Rattle.entry.specs.Promise.{Naming}
 use Rattle.linetext.specs.Line.{Ended}

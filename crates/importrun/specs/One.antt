@@ -11,7 +11,7 @@ use Rattle.listrun.specs.Promise.{state_at_value}
 use Rattle.listrun.specs.One as List'
 use Rattle.nametable.specs.Promise.{Memory}
 use Rattle.catalogue.specs.Promise.{NamesIn}
-use Rattle.catalogue.specs.One.{names_in_one}
+use Rattle.catalogue.proofs.One.{names_in_one}
 use Rattle.cataloguerun.specs.declared.CatalogueRun.{CatalogueRun}
 use Rattle.importing.specs.declared.Stopped.{Stopped}
 use Rattle.importing.specs.Promise.{ImportState, import_state, place_of, Imports}

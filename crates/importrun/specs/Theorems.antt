@@ -15,7 +15,7 @@ use Rattle.writer.proofs.PutLaws.{length_put}
 use Rattle.columns.specs.Columns.{header}
 use Rattle.nametable.specs.Promise.{Memory}
 use Rattle.catalogue.specs.Promise.{NamesIn}
-use Rattle.catalogue.specs.Theorems.{named_with}
+use Rattle.catalogue.proofs.Theorems.{named_with}
 use Rattle.cataloguerun.specs.declared.CatalogueRun.{CatalogueRun}
 use Rattle.cataloguerun.specs.Theorems.{ComesTo, ready, refused}
 use Rattle.filter.specs.declared.Phase.{Phase}

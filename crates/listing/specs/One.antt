@@ -8,8 +8,8 @@ use Rattle.calendar.specs.declared.Dated.{Dated}
 use Rattle.bytesearch.specs.One.{never}
 use Rattle.nametable.specs.Houses.{House}
 use Rattle.catalogue.specs.Catalogue.{catalogue, refused_by, NamesWith}
-use Rattle.catalogue.specs.One.{means_one}
-use Rattle.catalogue.specs.Theorems.{names_with_one}
+use Rattle.catalogue.proofs.One.{means_one}
+use Rattle.catalogue.proofs.Theorems.{names_with_one}
 use Rattle.writer.specs.Promise.{put, Writes}
 use Rattle.writer.specs.One.{writes_one}
 use Rattle.writer.specs.declared.Written.{Written}

@@ -14,7 +14,7 @@ use Rattle.nametable.specs.Houses.{House}
 use Rattle.nametable.specs.Holds.{Holds}
 use Rattle.catalogue.specs.Catalogue.{catalogue, refused_by, Means}
 use Rattle.catalogue.specs.Promise.{NamesIn}
-use Rattle.catalogue.specs.Theorems.{named_with}
+use Rattle.catalogue.proofs.Theorems.{named_with}
 use Rattle.writer.specs.Promise.{put}
 use Rattle.writer.proofs.PutLaws.{put_none, put_then, length_put}
 use Rattle.bytesearch.specs.Promise.{Without}

@@ -14,7 +14,7 @@ use Rattle.filter.specs.One.{puts_message_one}
 use Rattle.columns.specs.Columns.{header}
 use Rattle.linetext.specs.One.{ended_one}
 use Rattle.nametable.specs.Promise.{Memory}
-use Rattle.catalogue.specs.One.{names_in_one}
+use Rattle.catalogue.proofs.One.{names_in_one}
 use Rattle.cataloguerun.specs.declared.CatalogueRun.{CatalogueRun}
 use Rattle.listrun.specs.Promise.{Begins, Refuses, Starts, state_at_value, Advances, Closes, GoesOn}
 

@@ -1,6 +1,6 @@
 -- Why the functions meet their promises.
 -- Assumes nothing.
-use Rattle.std.specs.Prelude.{ℕ, ◌+◌, ◌≤◌, ◌<◌, ◌^◌, ◌≡◌, refl, List, ◌∷◌, Bool, length, take, ℤ, pos}
+use Rattle.std.specs.Prelude.{ℕ, ◌+◌, ◌≤◌, ◌<◌, ◌^◌, ◌≡◌, refl, List, ◌∷◌, Bool, false, length, take, ℤ, pos}
 use Rattle.std.proofs.Common.{sym, ◌∙◌, ap, subst, arith, length-append, take_at, to_z, of_z, to_z-of_z}
 use Rattle.std.specs.Int.{w32}
 use Rattle.days.specs.ReformationRules.{accepted, refused_1, refused_2, Judged, all_three}
@@ -19,7 +19,7 @@ use Rattle.ncal.specs.declared.Found.{Found}
 use Rattle.ncal.specs.declared.Found.TheVariants as Found'
 use Rattle.nametable.specs.Limits.{most_lines, most_name}
 use Rattle.nametable.specs.Promise.{Memory, Finds, Enters, no_slot, no_room, enters}
-use Rattle.nametable.specs.Houses.{House, house}
+use Rattle.nametable.specs.Houses.{house}
 use Rattle.nametable.specs.declared.Found as T
 use Rattle.whole.specs.Text.{tab}
 use Rattle.houseline.specs.Form.{Form, form}
@@ -29,7 +29,7 @@ use Rattle.houseline.specs.declared.HouseLine.{HouseLine}
 use Rattle.bytesearch.specs.One.{never}
 use Rattle.catalogue.specs.declared.Added.{Added}
 use Rattle.catalogue.specs.Catalogue.{LineMeaning, holds, Formed, OfName, leaves, of_form, OfReformation, of_reformation}
-use Rattle.catalogue.specs.Promise.{TakenIn, FreeIn, Result, left_as, added, AddsHouse, adds_house, Adds, made_up, adds, HouseCalendar, NamesIn, unknown}
+use Rattle.catalogue.specs.Promise.{TakenIn, FreeIn, IsTaken, Result, left_as, added, AddsHouse, adds_house, Adds, made_up, adds, HouseCalendar, NamesIn, unknown}
 
 -- ---- a name that is built in, or not
 
@@ -93,6 +93,9 @@ module _ {m : Memory} {n : ℕ} {s : List ℕ} {z : ℤ} where
           by i (no_slot k) = absurd (omega arith)
           by i (no_room k) = absurd (omega arith)
           by i (enters d k o u) = judged_adds holds_it (added d (u ∙ i))
+
+pub house_over_told : {m : Memory} {n : ℕ} {s : List ℕ} {z : ℤ} {t : Bool} {g : Refusal} → IsTaken m s t → t ≡ false → most_lines ≤ n → g ≡ refusal 24 (n + 1) (pos 0) → AddsHouse m n s z m (Added.Refused g)
+house_over_told {m} {s = s} t e = house_over (subst (IsTaken m s) e t)
 
 -- ---- a line by its form
 

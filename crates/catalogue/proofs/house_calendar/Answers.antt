@@ -1,0 +1,11 @@
+-- `catalogue::house_calendar` meets its promise.
+use Rattle.catalogue.proofs.Laws.{house_accepted, house_refused}
+use mir.Facts.{to_z-of_z}
+use mir.Syntax.{w32}
+use Rattle.catalogue.proofs.house_calendar.Goals as goal
+
+pub returns-in-Accepted : goal.returns-in-Accepted
+returns-in-Accepted c = house_accepted (to_z-of_z {w = w32} c.ranges.r) (rw c.in-Accepted.is at c.judge.ensures)
+
+pub returns-in-Refused : goal.returns-in-Refused
+returns-in-Refused c = house_refused (to_z-of_z {w = w32} c.ranges.r) (rw c.in-Refused.is at c.judge.ensures) c.refusal_at.ensures
