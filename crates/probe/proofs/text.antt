@@ -1,2 +1,0 @@
--- The walk that the three reads by a reader share.
-pub mod Lending
