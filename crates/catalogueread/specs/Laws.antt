@@ -6,7 +6,7 @@ use Rattle.textlines.specs.Laws.{rest_grows, line_grows}
 use Rattle.nametable.specs.Limits.{most_lines}
 use Rattle.nametable.specs.Promise.{Memory}
 use Rattle.catalogue.specs.declared.Added.{Added}
-use Rattle.catalogueread.specs.Promise.{made_up_value, ReadState, going, Reached, ReadsNext, ReadsBlock, ReadsLast}
+use Rattle.catalogueread.specs.Promise.{made_up_value, AddsHeld, ReadState, going, Reached, ReadsNext, ReadsBlock, ReadsLast}
 
 abbrev pub Leads : List ℕ → ReadState → ReadState → Type 0
 Leads b s t = (e : Reached) → ReadsBlock b t e → ReadsBlock b s e
@@ -18,7 +18,12 @@ pub next_grows : {b : List ℕ} {s t : ReadState} → ReadsNext b s (going t) �
 next_grows (ReadsNext.rest f) h = rest_grows f h
 next_grows (ReadsNext.line f g) h = line_grows f
 
--- ---- the end of the file, where nothing is held
+-- ---- the end of the file, where a line is held
+
+pub last_more : {m : Memory} {n : ℕ} {l : List ℕ} {h : ℕ} {m' : Memory} {a : Added} → 0 < h → AddsHeld m n l h m' a → ReadsLast m n l h m' a
+last_more = ReadsLast.one_more
+
+-- ---- and where nothing is held
 
 module _ {m : Memory} {n : ℕ} {l : List ℕ} {h : ℕ} (k : h ≤ 0) where
   nothing : {a : Added} → ReadsLast m n l 0 m a → ReadsLast m n l h m a

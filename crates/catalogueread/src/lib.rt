@@ -109,6 +109,7 @@ pub fn read_block(
 }
 
 // The end of the file: the last line, which needs no newline, and how many lines the catalogue has.
+#[tactic(auto, using(crate::specs::Laws::last_more))]
 pub fn read_last(
     names: &mut Names,
     links: &mut Links,
