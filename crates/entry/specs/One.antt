@@ -1,7 +1,7 @@
 -- A line has one name and one text, and one answer where a name has one.
 -- Assumes nothing.
-use Rattle.std.specs.Prelude.{ℕ, ◌≤◌, ◌≡◌, refl, List, length, take, drop}
-use Rattle.std.proofs.Common.{sym, ◌∙◌, ap, ap₂, subst, arith, length-take, length-drop}
+use Rattle.std.specs.Prelude.{ℕ, ◌≡◌, refl, List, length}
+use Rattle.std.proofs.Common.{sym, ap, ap₂, subst, arith, length-take, length-drop}
 use Rattle.bytesearch.specs.One.{never, parted_one, never_parted}
 use Rattle.calendar.specs.declared.Calendar.{Calendar}
 use Rattle.calendar.specs.declared.Chosen.{Chosen}
