@@ -98,6 +98,7 @@ pub enum Spanned {
 }
 
 // A month that is not from 1 to 12 is refused 3.
+#[tactic(auto, using(crate::proofs::Months::refused_past_12))]
 pub fn month_span(switch: u64, year: u32, month: u32) -> Spanned
     ensures { SpansMonth switch (biased_year_value year) month result }
 {

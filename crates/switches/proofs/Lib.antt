@@ -1,0 +1,2 @@
+-- `Months`: that a month past 12 is refused.
+pub mod Months
