@@ -5,7 +5,7 @@ use Rattle.std.proofs.Common.{sym, ◌∙◌, ap, subst, true≢false, zero-add,
 use Rattle.whole.specs.Tests.{true_or_false}
 use Rattle.std.specs.Int.Signed.{lt_z}
 use Rattle.whole.specs.Text.{bytes}
-use Rattle.writer.specs.Promise.{put, Copies, Signs, Decimal}
+use Rattle.writer.specs.Promise.{Copies, Signs, Decimal}
 use Rattle.writer.specs.Laws.{PutText, decimal_of}
 use Rattle.writer.proofs.PutLaws.{length_put}
 use Rattle.writer.specs.declared.buffer.Copied.{Copied}
