@@ -79,12 +79,12 @@ pub reaches_on : {b : List ℕ} {s t v : BlockState} {N : Naming} → Reaches N 
 reaches_on g h k w m = record { onward = λ e r. g.onward e (Lists.goes_on h k w r); long = m ∙ g.long }
 
 -- where the output has room to begin with, it is not overrun, and the block is read on
-pub lists_inside : {b : List ℕ} {s e : BlockState} {N : Naming} → Lists N b s e → s.used ≤ length s.out → e.used ≤ length e.out
+pub lists_inside : {b : List ℕ} {N : Naming} {s e : BlockState} → Lists N b s e → s.used ≤ length s.out → e.used ≤ length e.out
 lists_inside (Lists.block_ends h) k = k
 lists_inside (Lists.out_of_room h) k = k
 lists_inside (Lists.goes_on h r w l) k = let q = next_inside w r in lists_inside l (omega (arith, q.0, q.1))
 
-pub lists_on : {b : List ℕ} {s e : BlockState} {N : Naming} → Lists N b s e → s.at ≤ e.at
+pub lists_on : {b : List ℕ} {N : Naming} {s e : BlockState} → Lists N b s e → s.at ≤ e.at
 lists_on (Lists.block_ends h) = omega arith
 lists_on (Lists.out_of_room h) = omega arith
 lists_on (Lists.goes_on h r w l) = omega (arith, next_grows w h, lists_on l)

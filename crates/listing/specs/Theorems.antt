@@ -151,9 +151,9 @@ module _ {N : Naming} where
   pub block_means : {b p : List ℕ} {s e : BlockState} → length s.line ≡ longest_entry → s.used ≤ length s.out → L.Holds s.line s.held p → Lists N b s e → BlockMeans N b s e p
   block_means k i h (Lists.block_ends x) = means_none k i h
   block_means k i h (Lists.out_of_room x) = means_none k i h
-  block_means {s = s} k i h (Lists.goes_on {t = t} x y w l) =
+  block_means {p = p} {s = s} k i h (Lists.goes_on {t = t} x y w l) =
       let m = means_next y k h w in
-      means_then m (block_means m.buffer (omega (arith, m.used_is, m.room, ap length m.out_is, length_put s.out s.used m.text m.room)) m.holds l)
+      means_then m (block_means {p = m.unfinished} m.buffer (omega (arith, m.used_is, m.room, ap length m.out_is, length_put s.out s.used m.text m.room)) m.holds l)
 
   last_means : {l : List ℕ} {n : ℕ} {r t : List ℕ} → L.Holds l n r → LastLine N l n t → (ms : List (List ℕ)) × Last r ms × AllListed N ms t
   last_means {r = []} h LastLine.no_more = ([], Last.none, AllListed.none)
