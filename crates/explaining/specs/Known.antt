@@ -1,5 +1,4 @@
 -- Known cases, about the definitions: choices in words, bytes as they are shown, a picture, and a pattern filled.
--- Assumes nothing.
 use Rattle.std.specs.Prelude.{ℕ, ◌+◌, ◌<◌, ◌≡◌, refl, Bool, true, false, [], ◌∷◌, pos, negsuc}
 use Rattle.std.proofs.Common.{arith}
 use Rattle.whole.specs.Text.{bytes}

@@ -1,5 +1,4 @@
 -- What the proofs need: of pieces written one after another, and of a pattern filled from its first byte on.
--- Assumes nothing.
 use Rattle.std.specs.Prelude.{ℕ, zero, suc, ◌+◌, ◌≤◌, ◌<◌, ◌^◌, ◌≡◌, refl, Bool, true, false, cond, ◌||◌, List, [], ◌∷◌, ◌++◌, length, get_or, drop, set, ltb, eqb, ℤ, pos, nat_abs}
 use Rattle.std.proofs.Math.Path.{sym, ap}
 use Rattle.std.proofs.Common.{◌∙◌, ap₂, subst, append_assoc, append-nil, ⊎_elim, arith, length-append, drop-cons, drop-drop, to_z-of_z}
@@ -20,7 +19,7 @@ use Rattle.writer.proofs.PutLaws.{put_on, put_none, put_byte, Copying, copying_o
 use Rattle.writer.specs.declared.buffer.Copied.{Copied}
 use Rattle.writer.specs.declared.Written.{Written}
 use Rattle.linetext.specs.Laws.{Text, text_as, text_then, put_text}
-use Rattle.explaining.specs.Patterns.{shown_byte_value, shown, number_mark, name_mark, text_mark, Filled, end, number, no_number, the_name, the_text, itself, cost_of, cost}
+use Rattle.explaining.specs.Patterns.{shown_byte_value, shown, number_mark, name_mark, text_mark, Filled, number, no_number, the_name, the_text, itself, cost_of, cost}
 use Rattle.reasons.specs.declared.Reason.{Reason}
 use Rattle.reasons.specs.declared.Reason.TheVariants.{Faulty}
 use Rattle.explaining.specs.Wording.{digit_words, further, choices, spaces, picture, fault_pattern, fault_end, sentence, numbers_of_value, follows, Says, says}
@@ -404,4 +403,4 @@ pub also : {x y : ℤ} {xs ys : List ℤ} → x ≡ y → xs ≡ ys → x ∷ xs
 also e f = ap₂ (λ (z : ℤ) (zs : List ℤ). z ∷ zs) e f
 
 pub held : {r x : ℤ} → mag r < 2 ^ hbits w64 → r ≡ x → to_z w64 (of_z w64 r) ≡ x
-held h e = to_z-of_z (sfits_of h) ∙ e
+held h e = to_z-of_z {w = w64} (sfits_of h) ∙ e

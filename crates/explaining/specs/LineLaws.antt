@@ -1,5 +1,4 @@
 -- What the proofs need: of the parts of a line, and of the paragraph for it.
--- Assumes nothing.
 use Rattle.std.specs.Prelude.{ℕ, ◌≤◌, ◌<◌, ◌≡◌, List, [], length, take, drop, ℤ, pos}
 use Rattle.std.proofs.Common.{sym, ◌∙◌, ap, subst, arith}
 use Rattle.days.specs.DayByDay.{Timeline}

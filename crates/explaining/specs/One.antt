@@ -1,5 +1,4 @@
 -- A pattern filled has one result, so has the paragraph of a reason, and so has that of a line.
--- Assumes nothing.
 use Rattle.std.specs.Prelude.{◌≡◌, refl, List, ◌∷◌, ◌++◌, ℕ, ℤ}
 use Rattle.std.proofs.Common.{sym, ap, ap₂, subst, arith}
 use Rattle.bytesearch.specs.One.{never}

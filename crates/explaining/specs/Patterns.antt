@@ -1,6 +1,5 @@
 -- A sentence is written by a pattern: `#` stands for the next of some whole numbers, `@` for the name of the calendar, `~` for the date text, and every
 -- other byte for itself.
--- Assumes nothing.
 use Rattle.std.specs.Prelude.{ℕ, ◌+◌, ◌≡◌, cond, List, [], ◌∷◌, ◌++◌, leb, eqb, ℤ}
 use Rattle.writer.specs.Promise.{WholeDecimal}
 

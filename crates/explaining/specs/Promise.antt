@@ -1,5 +1,4 @@
 -- What the functions of a paragraph ask for: room, and a name, a text and a place that are short enough.
--- Assumes nothing.
 use Rattle.std.specs.Prelude.{ℕ, ◌+◌, ◌≤◌, List, length}
 use Rattle.reasons.specs.declared.Reason.{Reason}
 use Rattle.reasons.specs.declared.Reason.TheVariants.{Accepted, MadeUp, Faulty, Missing, Skipped, OffYear, Outside}

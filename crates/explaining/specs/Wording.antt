@@ -1,5 +1,4 @@
 -- The words of an explanation: the sentence of each reason, as a pattern with its numbers, and what follows it.
--- Assumes nothing.
 use Rattle.std.specs.Prelude.{ℕ, zero, suc, ◌+◌, Bool, true, false, cond, ◌||◌, List, [], ◌∷◌, ◌++◌, ltb, eqb, ℤ, pos}
 use Rattle.whole.specs.Text.{bytes, newline}
 use Rattle.calendar.specs.declared.Date.{Date}
