@@ -61,6 +61,13 @@ module _ {o o' : List ℕ} (long : length o ≡ block_size) where
 
 -- ---- a catalogue that is refused
 
+-- what is put, and what is not
+puts_done : {t b b' : List ℕ} {i n : ℕ} → Puts t b i b' (Written.Done n) → (i + length t ≤ length b) × (b' ≡ put b i t) × (n ≡ i + length t)
+puts_done (Puts.done h) = (h, refl, refl)
+
+puts_short : {t b b' : List ℕ} {i : ℕ} {f : Refusal} → Puts t b i b' (Written.Refused f) → length b < i + length t
+puts_short (Puts.short h) = h
+
 module _ {o o₁ : List ℕ} {i : ℕ} (long : length o ≡ block_size) (w : PutsHeader o 0 o₁ (Written.Done i)) where
   header_put : (o₁ ≡ put o 0 header) × (i ≡ length header) × (length o₁ ≡ block_size) × (length header ≤ longest_line)
   header_put =
@@ -70,14 +77,16 @@ module _ {o o₁ : List ℕ} {i : ℕ} (long : length o ≡ block_size) (w : Put
       (e, k ∙ ap length p, ap length e ∙ length_put o 0 header (omega arith) ∙ long, h)
 
   pub refuses_with : {f : Refusal} {o₂ : List ℕ} {n : ℕ} {s : State} → Writes (LineOut (Line'.Refusal f)) o₁ i o₂ (Written.Done n) → s ≡ state_with_value Closing n → Refuses f o o₂ s
-  refuses_with {f} {s = s} (Writes.writes {t} p (Puts.done k)) e =
+  refuses_with {f} {o₂} {n} {s} (Writes.writes {t} p w) e =
+      let (k, u, v) = puts_done w in
       let (a, b, c, d) = header_put in
       let q : put o₁ i t ≡ put o 0 (header ++ t) = ap₂ (λ (x : List ℕ) (j : ℕ). put x j t) a (b ∙ sym (zero-add (length header))) ∙ put_then o 0 header t (omega arith) in
-      subst (Refuses f o (put o₁ i t)) (sym (e ∙ ap (state_with_value Closing) (ap (λ (j : ℕ). j + length t) b ∙ sym (length-append header t))))
-      (subst (λ (x : List ℕ). Refuses f o x (state_with_value Closing (length (header ++ t)))) (sym q) (Refuses.refuses p))
+      subst (λ (x : List ℕ). Refuses f o x s) (sym u)
+      (subst (Refuses f o (put o₁ i t)) (sym (e ∙ ap (state_with_value Closing) (v ∙ ap (λ (j : ℕ). j + length t) b ∙ sym (length-append header t))))
+      (subst (λ (x : List ℕ). Refuses f o x (state_with_value Closing (length (header ++ t)))) (sym q) (Refuses.refuses p)))
 
   pub refuses_always : {f g : Refusal} {o₂ : List ℕ} → Writes (LineOut (Line'.Refusal f)) o₁ i o₂ (Written.Refused g) → ⊥
-  refuses_always (Writes.writes p (Puts.short k)) = let (a, b, c, d) = header_put in omega (arith, p.short)
+  refuses_always (Writes.writes p w) = let (a, b, c, d) = header_put in omega (arith, p.short, puts_short w)
 
 pub starts : {run r : CatalogueRun} {o o' : List ℕ} {s : State} → run ≡ r → Starts r o o' s → Starts run o o' s
 starts {o = o} {o'} {s} q w = subst (λ (v : CatalogueRun). Starts v o o' s) (sym q) w

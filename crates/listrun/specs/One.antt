@@ -40,7 +40,7 @@ closes_one {i} {o = o} (Closes.closes x) (Closes.closes y) = let e = last_line_o
 
 pub goes_on_one : {i : Memory} {b l o : List ℕ} {s : State} {v : Event} {k m p q : List ℕ} {r t : State} → GoesOn i b l o s v k p r → GoesOn i b l o s v m q t → (k ≡ m) × (p ≡ q) × (r ≡ t)
 goes_on_one (GoesOn.works_on x) (GoesOn.works_on y) = advances_one x y
-goes_on_one (GoesOn.last_Line x) (GoesOn.last_Line y) = let (e, f) = closes_one x y in (refl, e, f)
+goes_on_one (GoesOn.last_line x) (GoesOn.last_line y) = let (e, f) = closes_one x y in (refl, e, f)
 goes_on_one (GoesOn.cannot_read x) (GoesOn.cannot_read y) = let (e, f) = puts_message_one x y in (refl, e, f)
 goes_on_one (GoesOn.cannot_write x) (GoesOn.cannot_write y) = let (e, f) = puts_message_one x y in (refl, e, f)
 goes_on_one GoesOn.ends GoesOn.ends = (refl, refl, refl)

@@ -102,7 +102,7 @@ module _ (m : Memory) where
 
   reading_turn : {s s' : State} {a b l l' o o' i t : List ℕ} (c : List ℕ) → length c ≤ block_size → take (length c) b ≡ c → GoesOn m b l o s (event_in Reading s.at s.count true (pos (length c))) l' o' s' → After s' b l' o' i t s'.phase
       → After s a l o (c ++ i) (take s.used o ++ t) Reading
-  reading_turn {s} {o = o} [] h e (GoesOn.last_Line (Closes.closes {t = u} x)) (After.closing f g) =
+  reading_turn {s} {o = o} [] h e (GoesOn.last_line (Closes.closes {t = u} x)) (After.closing f g) =
       After.reading (record { parts = []; lines = u; calls = Calls.ends x; all = sym f; text = ap (λ (y : List ℕ). take s.used o ++ y) (g ∙ put_front o u) })
   reading_turn {b = b} {i = i} {t} (x ∷ c) h e (GoesOn.works_on a) q =
       let g = advance_goes a q in

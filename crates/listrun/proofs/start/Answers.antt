@@ -1,0 +1,16 @@
+-- `listrun::start` meets its promise.
+use Rattle.listrun.specs.Promise.{Starts}
+use Rattle.listrun.specs.Laws.{starts}
+use Rattle.listrun.proofs.start.Goals as goal
+
+pub returns-in-Ready : goal.returns-in-Ready
+returns-in-Ready c = starts c.in-Ready.is (Starts.with_catalogue c.begin.ensures)
+
+pub returns-in-Refused : goal.returns-in-Refused
+returns-in-Refused c = starts c.in-Refused.is (Starts.with_refused c.refuse.ensures)
+
+pub returns-in-Unread : goal.returns-in-Unread
+returns-in-Unread c = starts c.in-Unread.is (rw c.state_with.ensures Starts.with_unread)
+
+pub returns-in-Reading : goal.returns-in-Reading
+returns-in-Reading c = starts c.in-Reading.is (rw c.state_with-in-Reading.ensures Starts.with_unfinished)
