@@ -4,7 +4,7 @@
 -- (`ended-gives`). So it does not matter in what parts a file comes: `importrun` says it of a whole run. That a catalogue and an input have one import
 -- is in `One`. Of a record whose fields hold f and g the listing looks up f and reads g (`line_parts`).
 -- Assumes nothing.
-use Rattle.std.specs.Prelude.{ℕ, ◌+◌, ◌-◌, ◌≤◌, ◌<◌, ◌≡◌, refl, Bool, true, false, List, [], ◌∷◌, ◌++◌, length, drop, pos}
+use Rattle.std.specs.Prelude.{ℕ, ◌+◌, ◌-◌, ◌≤◌, ◌<◌, ◌≡◌, refl, Bool, true, List, [], ◌∷◌, ◌++◌, length, drop, pos}
 use Rattle.std.proofs.Common.{sym, ◌∙◌, ap, ap₂, subst, true≢false, append_assoc, append-nil, arith, length-append, length-drop, take_at, drop-drop, drop_at}
 use Rattle.std.proofs.Math.Nat.{min-eq_left}
 use Rattle.std.proofs.Math.Seq.{drop-length}
@@ -13,7 +13,7 @@ use Rattle.writer.specs.Promise.{put}
 use Rattle.writer.proofs.PutLaws.{put_none, put_then, length_put}
 use Rattle.entry.specs.Entry.{Entry}
 use Rattle.entry.specs.Promise.{Naming, LineAnswer}
-use Rattle.linetext.specs.Line.{Ended, longest_line}
+use Rattle.linetext.specs.Line.{longest_line}
 use Rattle.linetext.specs.Promise.{LineOut}
 use Rattle.linetext.specs.declared.Line.TheVariants as Line'
 use Rattle.listing.specs.Lines.{Listed, listed}
@@ -21,7 +21,7 @@ use Rattle.listing.specs.Promise.{HeldAnswer, HeldLine}
 use Rattle.listing.specs.Laws.{held_short}
 use Rattle.commatext.specs.declared.Scan.TheVariants as Scan'
 use Rattle.commatext.specs.Grammar.{Field, Record, longest_record}
-use Rattle.commatext.specs.Contents.{Where, Begun, NoLineEnd, Faulty, Outcome, entry, refused, outcome_of, Reads}
+use Rattle.commatext.specs.Contents.{Where, Begun, NoLineEnd, Faulty, Outcome, refused, outcome_of, Reads}
 use Rattle.commatext.specs.Promise.{Closes, line_of, Scans}
 use Rattle.commatext.specs.One.{reads_one}
 use Rattle.commatext.specs.Theorems.{field_without_tab}
