@@ -1,6 +1,5 @@
 -- What a text comes to, whatever its bytes are, as the request M-101 has it: its records, from left to right, up to its end or to its first fault.
 -- A fault is said by the grammar: the bytes before it begin a record, and what stands there does not go on in it. Nothing here reads.
--- Assumes nothing.
 use Rattle.std.specs.Prelude.{ℕ, ◌+◌, ◌≤◌, ◌<◌, ◌≡◌, Bool, true, List, [], ◌∷◌, ◌++◌, length}
 use Rattle.whole.specs.Text.{newline}
 use Rattle.commatext.specs.Grammar.{comma, quote, return, TextData, QuotedByte, NonEscaped, Quoted, Field, Record, LineEnd, longest_record}

@@ -1,5 +1,4 @@
 -- Every text comes to something, whatever its bytes are: the beginning of a record goes on byte by byte, until it ends or a byte does not fit.
--- Assumes nothing.
 use Rattle.std.specs.Prelude.{ℕ, zero, suc, ◌+◌, ◌≤◌, ◌<◌, ◌≡◌, refl, ◌⊎◌}
 use Rattle.std.proofs.Common.{sym, ◌∙◌, inl, inr}
 use Rattle.std.proofs.Math.Path.{ap, subst}
@@ -34,12 +33,14 @@ begun_record : {l : List ℕ} {w : Where} {fs : List (List ℕ)} {f : List ℕ} 
 begun_record (Begun.fresh {l} {fs} r) o = subst (λ (x : List ℕ). Record x (fs ++ ([] ∷ []))) (append-nil l) (record_of r (Field.non_escaped NonEscaped.none))
 begun_record (Begun.text r m h) o = record_of r (Field.non_escaped m)
 begun_record (Begun.closed r q) o = record_of r (Field.escaped q)
+begun_record (Begun.inside _ _) o = elim o [ ]
 
 -- a comma ends the field
 begun_comma : {l : List ℕ} {w : Where} {fs : List (List ℕ)} {f : List ℕ} → Begun l w fs f → Outside w → Begun (l ++ (comma ∷ [])) Where.fresh (fs ++ (f ∷ [])) []
 begun_comma (Begun.fresh r) o = Begun.fresh (fields_snoc r (Field.non_escaped NonEscaped.none))
 begun_comma (Begun.text {l} {m} {fs} r p h) o = subst (λ (x : List ℕ). Begun x Where.fresh (fs ++ (m ∷ [])) []) (sym (append_assoc l m (comma ∷ []))) (Begun.fresh (fields_snoc r (Field.non_escaped p)))
 begun_comma (Begun.closed {l} {m} {f} {fs} r q) o = subst (λ (x : List ℕ). Begun x Where.fresh (fs ++ (f ∷ [])) []) (sym (append_assoc l (quote ∷ (m ++ (quote ∷ []))) (comma ∷ []))) (Begun.fresh (fields_snoc r (Field.escaped q)))
+begun_comma (Begun.inside _ _) o = elim o [ ]
 
 plain_snoc : {m : List ℕ} {b : ℕ} → NonEscaped m → TextData b → NonEscaped (m ++ (b ∷ []))
 plain_snoc NonEscaped.none t = NonEscaped.more t NonEscaped.none
@@ -101,6 +102,7 @@ module _ (b : ℕ) (r : List ℕ) where
         (λ t. go Where.text fs (m ++ (b ∷ [])) (subst (λ (x : List ℕ). Begun x Where.text fs (m ++ (b ∷ []))) (sym (append_assoc l m (b ∷ []))) (Begun.text p (plain_snoc q t) (omega (arith, length-append m (b ∷ []))))) k)
         (λ t. Stop.faulty (Begun.text p q i) (Faulty.in_text k n c t) refl)
         (text_or_not b))
+    outside_next (Begun.inside _ _) o h go = elim o [ ]
     outside_next (Begun.closed {l} {m} {f} {fs} p q) o h go = common (Begun.closed p q) o h go (λ k c. ⊎_elim
         (λ e. go (Where.inside (length l)) fs (f ++ (quote ∷ [])) (subst (λ (i : ℕ). Begun ((l ++ (quote ∷ (m ++ (quote ∷ [])))) ++ (i ∷ [])) (Where.inside (length l)) fs (f ++ (quote ∷ []))) (sym e) (reopened p q)) k)
         (λ e. Stop.faulty (Begun.closed p q) (Faulty.after_quote k n c e) refl)

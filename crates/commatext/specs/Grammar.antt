@@ -1,6 +1,5 @@
 -- Comma-separated text, rule by rule as RFC 4180 has it, with what each field holds once it is unquoted. A bare line feed is taken as a line end too,
 -- and a file has two fields a record. A byte is any number below 256. Nothing here reads.
--- Assumes nothing.
 use Rattle.std.specs.Prelude.{ℕ, ◌≤◌, ◌≡◌, List, [], ◌∷◌, ◌++◌, length}
 use Rattle.whole.specs.Text.{newline}
 

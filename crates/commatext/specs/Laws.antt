@@ -1,5 +1,4 @@
 -- What the proofs need: which bytes go on in a field, how the beginning of a record grows, and how it ends.
--- Assumes nothing.
 use Rattle.std.specs.Prelude.{ℕ, zero, suc, ◌+◌, ◌≤◌, ◌<◌, min, ◌≡◌, refl, Bool, true, false, List, [], ◌∷◌, ◌++◌, length, take, drop, get_or}
 use Rattle.std.proofs.Common.{sym, ◌∙◌, ap, ap₂, subst, true≢false, append_assoc, append-nil, ⊎_elim, add-zero, arith, length-append, take-append-drop, drop_of_length-le, drop-cons, take-add, take_at, take_all, length-take-le}
 use Rattle.whole.specs.Text.{newline}

@@ -1,6 +1,5 @@
 -- A text comes to one thing, and the promise allows one result. The beginning of a record is walked byte by byte; from one place a byte leads to one
 -- place (`goes_one`), and where a record ends, or is refused, no byte leads on (`stuck`).
--- Assumes nothing.
 use Rattle.std.specs.Prelude.{ℕ, zero, suc, ◌+◌, ◌≤◌, ◌<◌, ◌≡◌, refl, Bool, true, false, List, [], ◌∷◌, ◌++◌, length, drop}
 use Rattle.std.proofs.Common.{sym, ◌∙◌, ap, ap₂, subst, true≢false, append_assoc, append-nil, zero-add, arith, length-append, length-drop, drop_at}
 use Rattle.whole.specs.Text.{newline}
@@ -51,6 +50,16 @@ goes_one (Goes.closes e) (Goes.byte r) = absurd (quote_not_quoted e r)
 goes_one (Goes.closes e) (Goes.closes d) = refl
 goes_one (Goes.again e) (Goes.parts p d) = absurd (omega arith)
 goes_one (Goes.again e) (Goes.again d) = refl
+goes_one (Goes.text u t) (Goes.byte r) = elim u [ ]
+goes_one (Goes.text u t) (Goes.closes d) = elim u [ ]
+goes_one (Goes.text u t) (Goes.again d) = elim u [ ]
+goes_one (Goes.parts o e) (Goes.byte r) = elim o [ ]
+goes_one (Goes.parts o e) (Goes.closes d) = elim o [ ]
+goes_one (Goes.byte q) (Goes.text v s) = elim v [ ]
+goes_one (Goes.byte q) (Goes.parts o e) = elim o [ ]
+goes_one (Goes.closes e) (Goes.text v s) = elim v [ ]
+goes_one (Goes.closes e) (Goes.parts o d) = elim o [ ]
+goes_one (Goes.again e) (Goes.text v s) = elim v [ ]
 
 data Walk : ℕ → State → List ℕ → State → Type 0 where
   none : {k : ℕ} {x : State} → Walk k x [] x
@@ -166,12 +175,15 @@ no_line o h (Goes.text u t) = below_text h t
 no_line o h (Goes.parts p e) = omega arith
 no_line o h (Goes.opens e) = omega arith
 no_line o h (Goes.again e) = omega arith
+no_line o h (Goes.byte _) = elim o [ ]
+no_line o h (Goes.closes _) = elim o [ ]
 
 -- where it halts no byte leads on
 not_both : {ends : Bool} {i : ℕ} {s : List ℕ} → NoLineEnd ends s → LineAt s i → ⊥
 not_both (NoLineEnd.other f g) LineAt.return_feed = g refl
 not_both (NoLineEnd.other f g) LineAt.feed = f refl
 not_both (NoLineEnd.bare_return f) LineAt.return_feed = f refl
+not_both (NoLineEnd.last_return _) x5 = elim x5 [ ]
 
 line_low : {b i : ℕ} {s : List ℕ} → LineAt (b ∷ s) i → b < 32
 line_low LineAt.return_feed = omega arith
@@ -196,6 +208,9 @@ stuck (How.faulty v) x h g = faulty_stuck v x h g
     faulty_stuck (Faulty.in_text i n c t) x h (Goes.parts o e) = c (cc)
     faulty_stuck (Faulty.in_quotes i q t) x h (Goes.byte v) = t (subst QuotedByte (cc) v)
     faulty_stuck (Faulty.in_quotes i q t) x h (Goes.closes e) = q (cc)
+    faulty_stuck (Faulty.after_quote i n c q) x h (Goes.text u v) = elim u [ ]
+    faulty_stuck (Faulty.in_quotes i q t) x h (Goes.text u v) = elim u [ ]
+    faulty_stuck (Faulty.in_quotes i q t) x h (Goes.parts o e) = elim o [ ]
     faulty_stuck (Faulty.unclosed t m) x h g = omega (arith, ap length x)
 
 -- ---- and it halts in one way
@@ -228,6 +243,9 @@ faulty_outside (Faulty.long o n) x = n
 faulty_outside (Faulty.after_quote i n c q) x = n
 faulty_outside (Faulty.in_fresh i n c q t) x = n
 faulty_outside (Faulty.in_text i n c t) x = n
+faulty_outside Faulty.long_inside x = elim x [ ]
+faulty_outside (Faulty.in_quotes _ _ _) x = elim x [ ]
+faulty_outside (Faulty.unclosed _ _) x = elim x [ ]
 
 faulty_none : {ends : Bool} {w : Where} {k n p : ℕ} {s : List ℕ} → Faulty ends w k s n p → ends ≡ false → s ≡ [] → ⊥
 faulty_none (Faulty.long o n) t e = no_line_some n e
@@ -254,6 +272,12 @@ faulty_one Faulty.long_inside (Faulty.in_quotes i q t) = absurd (omega arith)
 faulty_one (Faulty.in_quotes i q t) Faulty.long_inside = absurd (omega arith)
 faulty_one (Faulty.in_quotes i q t) (Faulty.in_quotes j x u) = refl
 faulty_one (Faulty.unclosed t m) (Faulty.unclosed u x) = refl
+faulty_one (Faulty.long o n) Faulty.long_inside = elim o [ ]
+faulty_one (Faulty.long o n) (Faulty.in_quotes i q t) = elim o [ ]
+faulty_one (Faulty.long o n) (Faulty.unclosed u x) = elim o [ ]
+faulty_one Faulty.long_inside (Faulty.long x y) = elim x [ ]
+faulty_one (Faulty.in_quotes i q t) (Faulty.long x y) = elim x [ ]
+faulty_one (Faulty.unclosed t m) (Faulty.long x y) = elim x [ ]
 
 how_one : {ends : Bool} {w : Where} {k : ℕ} {s : List ℕ} {h j : Halt} → How ends w k s h → How ends w k s j → h ≡ j
 how_one {k = k} (How.line_end o e n) (How.line_end o' e' n') = ap Halt.closed (n ∙ ap (λ (i : ℕ). k + i) (line_long e e') ∙ sym n')

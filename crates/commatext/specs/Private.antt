@@ -1,6 +1,5 @@
 -- What the private functions say: of a byte, of a run of bytes, of what comes next, and of the two readings, which say what they found in whatever
 -- record they were handed.
--- Assumes nothing.
 use Rattle.std.specs.Prelude.{ℕ, zero, suc, ◌+◌, ◌≤◌, ◌<◌, ◌≡◌, Bool, true, false, List, [], ◌∷◌, ◌++◌, length, take, drop, get_or, eqb}
 use Rattle.digits.specs.Promise.{pick}
 use Rattle.writer.specs.Laws.{PutText}

@@ -1,5 +1,4 @@
 -- What is promised of the record at the front of some bytes. `ends` tells whether the text ends after them, or may go on.
--- Assumes nothing.
 use Rattle.std.specs.Prelude.{ℕ, ◌+◌, ◌≤◌, ◌≡◌, Bool, true, false, List, [], ◌∷◌, ◌++◌, length}
 use Rattle.whole.specs.Text.{tab}
 use Rattle.writer.specs.Promise.{put}

@@ -2,7 +2,6 @@
 -- A text comes to entries alone, with no refusal, exactly if it is empty or belongs to the grammar, and they are the fields of its records
 -- (`file_of`, `of_file`). What it comes to is one thing (`reads_one` of `One`), and there is such a thing, whatever its bytes are (`reads_some` of
 -- `Every`). So a text outside the grammar has one first fault, or records with another number of fields, and no text is read in two ways.
--- Assumes nothing.
 use Rattle.std.specs.Prelude.{ℕ, ◌+◌, ◌<◌, ◌≡◌, refl, ◌⊎◌, List, [], ◌∷◌, ◌++◌, length}
 use Rattle.std.proofs.Common.{sym, ◌∙◌, ap, subst, inl, inr, ⊎_elim, append-nil, arith, length-append}
 use Rattle.whole.specs.Text.{tab}

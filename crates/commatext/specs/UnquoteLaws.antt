@@ -1,5 +1,4 @@
 -- What the proofs of `unquote` need: how a quoted field is taken byte by byte, and how two fields become a line.
--- Assumes nothing.
 use Rattle.std.specs.Prelude.{ℕ, suc, ◌+◌, ◌-◌, ◌≤◌, ◌<◌, ◌≡◌, refl, Bool, true, false, List, [], ◌∷◌, ◌++◌, length, take, drop, get_or, set, eqb}
 use Rattle.std.proofs.Common.{sym, ◌∙◌, ap, ap₂, subst, append_assoc, append-nil, zero-add, arith, length-append, length-drop, length-take, length-set, take-append-drop, drop-cons, drop-drop, take_at, drop_at, take-take, length-take-le, eq-eqb, ne_eqb}
 use Rattle.whole.specs.Text.{tab}

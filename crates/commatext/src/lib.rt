@@ -146,6 +146,7 @@ fn other_byte(at: usize) -> Next
 }
 
 // After a CR.
+#[tactic(auto, using(crate::specs::Laws::return_text_ends, crate::specs::Laws::return_bytes_end, crate::specs::Laws::return_feed, crate::specs::Laws::return_other))]
 fn after_return(s: &[u8], ends: bool, at: usize) -> Next
     requires { at < length s.now }
     ensures { AfterReturn ends s.now at result }
@@ -163,6 +164,7 @@ fn after_return(s: &[u8], ends: bool, at: usize) -> Next
     other_byte(at)
 }
 
+#[tactic(auto, using(crate::specs::Laws::next_text_ends, crate::specs::Laws::next_bytes_end, crate::specs::Laws::next_feed, crate::specs::Laws::next_comma, crate::specs::Laws::next_quote, crate::specs::Laws::next_long, crate::specs::Laws::next_other))]
 fn next_outside(s: &[u8], ends: bool, at: usize) -> Next
     requires { at ≤ length s.now }
     ensures { NextIs ends at (drop at s.now) result }
@@ -206,6 +208,7 @@ fn first_comma(commas: usize, first: usize, at: usize) -> usize
 // From an offset on, at the beginning of a field, or after a quote of the field that begins at `opened`. So many commas came before it, the first of
 // them at `first`.
 #[cycle(inside_quotes_outside_quotes)]
+#[tactic(auto, using(crate::specs::Laws::here, crate::specs::Laws::piece, crate::specs::Laws::finds_pair, crate::specs::Laws::finds_other))]
 fn outside_quotes(
     s: &[u8],
     ends: bool,
@@ -267,7 +270,8 @@ fn inside_quotes(
         }
         return Found::Undecided;
     }
-    if LONGEST_RECORD <= end {
+    let long = LONGEST_RECORD <= end;
+    if long {
         return Found::Stops(20, end);
     }
     if s[end] == b'"' {
