@@ -1,6 +1,6 @@
 -- What the proofs need: how a line is held and written, and how a block is cut into lines.
 -- Assumes nothing.
-use Rattle.std.specs.Prelude.{ℕ, ◌+◌, ◌≤◌, ◌<◌, ◌≡◌, refl, List, [], length, pos}
+use Rattle.std.specs.Prelude.{ℕ, ◌+◌, ◌≤◌, ◌<◌, ◌≡◌, refl, List, [], length, take, pos}
 use Rattle.std.proofs.Common.{sym, subst, ◌∙◌, arith}
 use Rattle.writer.specs.Promise.{Writes, put, Puts}
 use Rattle.writer.specs.Laws.{wrote, left_alone}
@@ -15,13 +15,17 @@ use Rattle.calendar.specs.declared.Dated.{Dated}
 use Rattle.calendar.specs.declared.Chosen.{Chosen}
 use Rattle.textlines.specs.Promise.{TakesLine}
 use Rattle.textlines.specs.Laws.{rest_grows, line_grows}
+use Rattle.entry.specs.Entry.{longest_entry}
 use Rattle.entry.specs.Promise.{Naming, LineAnswer}
 use Rattle.entry.specs.Laws.{answer_also}
 use Rattle.columns.specs.Columns.{line_of}
-use Rattle.listing.specs.Promise.{HeldAs, HeldLine, LastLine, BlockState, block_state, NextLine, Lists}
+use Rattle.listing.specs.Promise.{HeldAnswer, HeldAs, HeldLine, LastLine, BlockState, block_state, NextLine, Lists}
 use Rattle.listing.specs.Lines.{Listed, listed, AllListed}
 
 -- ---- the line that is held
+
+pub answered_short : {l : List ℕ} {n : ℕ} {a : Dated} {m : Line} {N : Naming} → n ≤ longest_entry → LineAnswer N (take n l) a → m ≡ line_of a → HeldAs N l n m
+answered_short {l} {n} {N = N} h q e = subst (HeldAs N l n) (sym e) (HeldAs.held_as (HeldAnswer.short h q))
 
 pub held_short : {l : List ℕ} {n : ℕ} {t : List ℕ} {N : Naming} → HeldLine N l n t → length t ≤ longest_line
 held_short (HeldLine.held_line h x) = x.short

@@ -21,6 +21,7 @@ fn front_answer(names: &Names, links: &Links, line: &[u8], held: usize) -> Dated
 }
 
 // The answer to it, as a line of the listing.
+#[tactic(auto, using(crate::specs::Laws::answered_short))]
 pub fn held_line(names: &Names, links: &Links, line: &[u8; LONGEST_ENTRY], held: usize) -> Line
     ensures { HeldAs (NamesIn (memory names.now links.now)) line.now held result }
 {
@@ -41,7 +42,8 @@ pub fn list_last(
 ) -> Written
     ensures { Writes (LastLine (NamesIn (memory names.now links.now)) line.now held) out.old at out.new result }
 {
-    if 0 < held {
+    let some = 0 < held;
+    if some {
         return linetext::put_line(out, at, held_line(names, links, line, held));
     }
     if buffer::has_room(out.len(), at, 0) {

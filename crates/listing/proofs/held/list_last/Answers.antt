@@ -2,13 +2,15 @@
 use Rattle.listing.specs.Laws.{last_held, last_none, last_left}
 use borrow.Author.Tests.{leb-true, leb-false}
 use mathlib.Core.Path.{sym, ◌∙◌}
+use native.Mathlib.Omega.{arith}
+use Rattle.std.specs.Prelude.{◌<◌}
 use Rattle.listing.proofs.held.list_last.Goals as goal
 
-pub returns-then-held-gt0 : goal.returns-then-held-gt0
-returns-then-held-gt0 c = last_held c.if-held-gt0.true c.held_line.ensures c.put_line.ensures
-
 pub returns-then-has_room : goal.returns-then-has_room
-returns-then-has_room c = last_none c.if-held-gt0.false (leb-true _ _ (sym c.has_room.ensures ∙ c.if-has_room.true))
+returns-then-has_room c = last_none (omega arith) (leb-true _ _ (sym c.has_room.ensures ∙ c.if-has_room.true))
 
 pub returns : goal.returns
-returns c = last_left c.if-held-gt0.false (leb-false _ _ (sym c.has_room.ensures ∙ c.if-has_room.false)) c.refusal_with.ensures
+returns c = last_left (omega arith) (leb-false _ _ (sym c.has_room.ensures ∙ c.if-has_room.false)) c.refusal_with.ensures
+
+pub returns-then-some : goal.returns-then-some
+returns-then-some c = let h : 0 < c.args.held = omega arith in last_held h c.held_line.ensures c.put_line.ensures
