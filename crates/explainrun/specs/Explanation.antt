@@ -1,6 +1,5 @@
 -- The explanation of an input: what is written for a catalogue and the lines of an input. Nothing here reads or writes.
 -- What the paragraph for a line is stands in `Paragraph` of the crate `explaining`.
--- Assumes nothing.
 use Rattle.std.specs.Prelude.{ℕ, List, []}
 use Rattle.refusals.specs.declared.Refusal.{Refusal}
 use Rattle.nametable.specs.Houses.{House}

@@ -1,5 +1,4 @@
 -- What the proofs need: what is written for the line that is held.
--- Assumes nothing.
 use Rattle.std.specs.Prelude.{ℕ, ◌≤◌, ◌<◌, List, length, take}
 use Rattle.std.proofs.Common.{sym, subst, arith}
 use Rattle.writer.specs.Promise.{Writes}
@@ -8,7 +7,6 @@ use Rattle.whole.specs.Text.{bytes}
 use Rattle.textlines.specs.Lines.{longest_read}
 use Rattle.entry.specs.Promise.{Naming}
 use Rattle.explaining.specs.Wording.{long_line}
-use Rattle.explaining.specs.Promise.{longest_paragraph}
 use Rattle.explaining.specs.Paragraph as P
 use Rattle.explaining.specs.Paragraph.{Paragraph}
 use Rattle.explaining.specs.Laws.{Is}

@@ -1,7 +1,6 @@
 -- A promise allows one result, and a catalogue and an input have one explanation.
--- Assumes nothing.
 use Rattle.std.specs.Prelude.{ℕ, ◌≡◌, refl, List}
-use Rattle.std.proofs.Common.{sym, subst}
+use Rattle.std.proofs.Common.{subst}
 use Rattle.bytesearch.specs.One.{never}
 use Rattle.nametable.specs.Houses.{House}
 use Rattle.nametable.specs.Promise.{Memory}

@@ -1,5 +1,4 @@
 -- What is promised of a run of the explanation: how it starts, and what a turn does by what has happened.
--- Assumes nothing.
 use Rattle.std.specs.Prelude.{ℕ, List}
 use Rattle.whole.specs.Text.{bytes}
 use Rattle.filter.specs.declared.Phase.TheVariants.{Reading, Ended}

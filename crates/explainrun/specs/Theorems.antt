@@ -1,6 +1,5 @@
 -- THE THEOREMS ON A RUN OF THE EXPLANATION. A program that has read its catalogue, does what the turns say, and whose reads and writes do not fail, writes
 -- the explanation of its catalogue and its input, whatever parts these come in (`run_explains`); so two runs on them write the same (`any_run`).
--- Assumes nothing.
 use Rattle.std.specs.Prelude.{ℕ, ◌≡◌, List, length}
 use Rattle.std.proofs.Common.{sym, true≢false}
 use Rattle.calendar.specs.declared.Chosen.{Chosen}

@@ -86,7 +86,8 @@ fn put_held(
 ) -> Written
     ensures { Writes (HeldOut (Paragraph (NamesIn (memory names.now links.now))) line.now held) out.old 0 out.new result }
 {
-    if held <= LONGEST_READ {
+    let short = held <= LONGEST_READ;
+    if short {
         return put_front(names, links, line, held, out);
     }
     explaining::explain_too_long(out, 0)
