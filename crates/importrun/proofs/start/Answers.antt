@@ -1,0 +1,7 @@
+-- `importrun::start` meets its promise.
+use Rattle.importrun.specs.Promise.{Starts}
+use borrow.Author.Rules.{rules}
+use Rattle.importrun.proofs.start.Goals as goal
+
+pub returns : goal.returns
+returns c = rw c.run_with.ensures (Starts.starts c.start-state.ensures)
