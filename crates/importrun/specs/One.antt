@@ -1,6 +1,6 @@
 -- Two results that a promise of a turn allows are equal.
 -- Assumes nothing.
-use Rattle.std.specs.Prelude.{ℕ, min, ◌≡◌, refl, Bool, true, false, List}
+use Rattle.std.specs.Prelude.{ℕ, min, ◌≡◌, refl, Bool, List}
 use Rattle.std.proofs.Common.{sym, ◌∙◌, ap, ap₂, subst, true≢false, arith}
 use Rattle.filter.specs.declared.Event.{Event}
 use Rattle.filter.specs.declared.Phase.TheVariants.{Reading, Midway, Closing}

@@ -1,6 +1,5 @@
 -- `importrun::advance` meets its promise.
 use Rattle.importrun.specs.Laws.{turn_ended, turn_full, turn_read, turn_spent}
-use borrow.Author.Rules.{rules}
 use Rattle.importrun.proofs.advance.Goals as goal
 
 pub returns-then-ends : goal.returns-then-ends

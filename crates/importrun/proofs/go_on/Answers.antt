@@ -3,7 +3,6 @@ use mir.Facts.{to_z-of_z}
 use Rattle.whole.specs.Text.{bytes}
 use Rattle.importrun.specs.Promise.{unread, unwritten, GoesOn}
 use Rattle.importrun.specs.Laws.{goes}
-use borrow.Author.Rules.{rules}
 use mir.Syntax.{w64}
 use Rattle.importrun.proofs.go_on.Goals as goal
 

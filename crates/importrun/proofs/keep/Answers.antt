@@ -1,9 +1,7 @@
 -- `importrun::keep` meets its promise. The loop's invariant is that of a copy of the bytes to the front, which lie ahead of it; the measure is how many are left.
-use Prim.Native.Nat.{◌-◌}
 use native.Mathlib.Omega.{arith}
-use Rattle.writer.proofs.PutLaws.{Copying, copying_start}
-use Rattle.importrun.specs.Laws.{part, keeps_none, keeping_on, keeping_done}
-use borrow.Author.Rules.{rules}
+use Rattle.writer.proofs.PutLaws.{copying_start}
+use Rattle.importrun.specs.Laws.{keeps_none, keeping_on, keeping_done}
 use Rattle.importrun.proofs.keep.Goals as goal
 
 pub returns-then-end-at : goal.returns-then-end-at

@@ -1,9 +1,7 @@
 -- `importrun::keep` meets its promise. The loop's invariant is that of a copy of the bytes to the front, which lie ahead of it; the measure is how many are left.
 use Prim.Native.Nat.{◌-◌}
-use native.Mathlib.Omega.{arith}
-use Rattle.writer.proofs.PutLaws.{Copying, copying_start}
-use Rattle.importrun.specs.Laws.{part, keeps_none, keeping_on, keeping_done}
-use borrow.Author.Rules.{rules}
+use Rattle.writer.proofs.PutLaws.{Copying}
+use Rattle.importrun.specs.Laws.{part}
 use Rattle.importrun.proofs.keep.Given as goal
 
 abbrev pub invariant-loop-i : goal.invariant-loop-i

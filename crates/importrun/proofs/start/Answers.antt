@@ -1,6 +1,5 @@
 -- `importrun::start` meets its promise.
 use Rattle.importrun.specs.Promise.{Starts}
-use borrow.Author.Rules.{rules}
 use Rattle.importrun.proofs.start.Goals as goal
 
 pub returns : goal.returns
