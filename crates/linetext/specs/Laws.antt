@@ -115,6 +115,9 @@ put_pair k n {b} {at} {b₂ = b₂} {j = j} h s r =
 pub put_number : (k n : ℕ) {b : List ℕ} {at : ℕ} {b' : List ℕ} {i m : ℕ} → n < 10 ^ suc k → (1 ≤ k → 10 ^ k ≤ n) → suc k ≤ m → PutText b at (digits_of (suc k) n) b' i → Text (Signs false n) m b at b' i
 put_number k n l g h s = put_text (Signs.signs (record { less = k; is = refl; below = l; least = g })) (omega (arith, length_digits (suc k) n)) s
 
+pub put_of_two : {n : ℕ} {b : List ℕ} {at : ℕ} {b' : List ℕ} {i : ℕ} → 10 ≤ n → n < 100 → PutText b at (digits_of 2 n) b' i → Text (Signs false n) 20 b at b' i
+put_of_two {n} g h s = put_number 1 n h (λ _. g) (omega arith) s
+
 tens : (n : ℕ) → n / 10 / 10 / 10 / 10 ≡ n / 10000
 tens n = omega arith
 

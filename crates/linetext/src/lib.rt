@@ -129,6 +129,7 @@ fn put_natural(out: &mut [u8], at: usize, n: u64) -> usize
 }
 
 // Ordinals, months, days and weekdays have at most three digits.
+#[tactic(auto, using(crate::specs::Laws::put_of_two))]
 fn put_few(out: &mut [u8], at: usize, n: u64) -> usize
     requires { at + 20 ≤ length out.old }
     ensures { Text (Signs false n) 20 out.old at out.new result }

@@ -10,8 +10,5 @@ returns-then-n-lt10 c = put_number 0 _ c.if-n-lt10.true (λ h. absurd (none h)) 
     none : 1 ≤ 0 → ⊥
     none h = omega arith
 
-pub returns-then-n-lt100 : goal.returns-then-n-lt100
-returns-then-n-lt100 c = put_number 1 _ c.if-n-lt100.true (λ h. c.if-n-lt10.false) (omega arith) c.put_two.ensures
-
 pub returns-then-n-lt1000 : goal.returns-then-n-lt1000
-returns-then-n-lt1000 c = put_number 2 _ c.if-n-lt1000.true (λ h. c.if-n-lt100.false) (omega arith) c.put_three.ensures
+returns-then-n-lt1000 c = put_number 2 _ c.if-n-lt1000.true (λ h. omega arith) (omega arith) c.put_three.ensures
