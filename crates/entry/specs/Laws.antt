@@ -1,18 +1,19 @@
 -- The parts of a line, and its answer where names come to the same in another way.
 -- Assumes nothing.
-use Rattle.std.specs.Prelude.{ℕ, ◌+◌, ◌-◌, ◌≤◌, ◌<◌, ◌≡◌, List, [], ◌∷◌, ◌++◌, length, take, drop}
+use Rattle.std.specs.Prelude.{ℕ, ◌+◌, ◌-◌, ◌≤◌, ◌<◌, ◌≡◌, List, [], ◌∷◌, ◌++◌, length, take, drop, pos}
 use Rattle.std.proofs.Common.{sym, ◌∙◌, ap, subst, append_assoc, ⊎_elim, arith, length-append, length-drop, take_all, take_at, drop_at}
 use Rattle.std.proofs.Math.Seq.{drop-length, take-length}
 use Rattle.whole.specs.Tests.{lt_or_ge}
 use Rattle.bytesearch.specs.Promise.{Without, UpTo}
 use Rattle.whole.specs.Text.{tab}
 use Rattle.refusals.specs.declared.Refusal.{Refusal}
+use Rattle.calendar.specs.Promise.{refusal}
 use Rattle.calendar.specs.Rows.{refuses, passes}
 use Rattle.calendar.specs.declared.Dated.{Dated}
 use Rattle.calendar.specs.declared.Dated.TheVariants as Dated'
 use Rattle.calendar.specs.declared.Chosen.{Chosen}
 use Rattle.calendar.specs.declared.Chosen.TheVariants as Chosen'
-use Rattle.entry.specs.Entry.{Entry, tabbed, bare}
+use Rattle.entry.specs.Entry.{longest_entry, Entry, tabbed, bare}
 use Rattle.entry.specs.Promise.{Naming, ByEntry, no_name, by_text, LineAnswer}
 
 entry_tabbed : {l : List ℕ} {k : ℕ} → UpTo tab l 0 k → k < length l → Entry l (take k l) (drop (k + 1) l)
@@ -45,6 +46,10 @@ entry_from {l} {k} b (TextFrom.at_end h e) = subst (λ (i : ℕ). Entry l (take 
 -- a name that is none, whatever the text
 pub no_calendar : {N : Naming} {l : List ℕ} {k : ℕ} {why : Refusal} → UpTo tab l 0 k → N (take k l) (Chosen'.Refused why) → ByEntry N l (Dated'.Refused why)
 no_calendar {l = l} {k} u n = ⊎_elim (λ h. no_name (entry_tabbed u h) n) (λ h. no_name (entry_bare u h) n) (lt_or_ge k (length l))
+
+-- a line that is too long, whatever it names
+pub too_long : {N : Naming} {l : List ℕ} {why : Refusal} → longest_entry < length l → why ≡ refusal 20 (pos 0) → LineAnswer N l (Dated'.Refused why)
+too_long {N} {l} h e = subst (λ (f : Refusal). LineAnswer N l (Dated'.Refused f)) (sym e) (refuses h)
 
 -- a part of a slice that goes on to its end
 pub to_the_end : (k : ℕ) (s : List ℕ) → take (length s - k) (drop k s) ≡ drop k s

@@ -61,6 +61,7 @@ fn parsed_from(calendar: Calendar, line: &[u8], from: usize) -> Dated
 }
 
 // The day that a line names, or why it names none.
+#[tactic(auto, using(crate::specs::Laws::too_long))]
 pub fn line_answer(names: &Names, links: &Links, line: &[u8]) -> Dated
     ensures { LineAnswer (NamesIn (memory names.now links.now)) line.now result }
 {

@@ -2,12 +2,9 @@
 use Rattle.bytesearch.specs.Laws.{up_to_inside}
 use Rattle.entry.specs.Laws.{entry_from, no_calendar}
 use native.Mathlib.Omega.{arith}
-use Rattle.calendar.specs.Rows.{refuses, passes}
+use Rattle.calendar.specs.Rows.{passes}
 use Rattle.entry.specs.Promise.{by_text}
 use Rattle.entry.proofs.line_answer.Goals as goal
-
-pub returns-then-line-gt-LONGEST_ENTRY : goal.returns-then-line-gt-LONGEST_ENTRY
-returns-then-line-gt-LONGEST_ENTRY c = rw c.refusal_of.ensures (refuses c.if-line-gt-LONGEST_ENTRY.true)
 
 pub named_before-requires : goal.named_before-requires
 named_before-requires c = (up_to_inside c.by_eights-tab.ensures (omega arith)).1
@@ -16,7 +13,7 @@ pub text_from-requires : goal.text_from-requires
 text_from-requires c = (up_to_inside c.by_eights-tab.ensures (omega arith)).1
 
 pub returns-in-Refused : goal.returns-in-Refused
-returns-in-Refused c = passes (λ h. omega (arith, h, c.if-line-gt-LONGEST_ENTRY.false)) (no_calendar c.by_eights-tab.ensures (rw c.in-Refused.is at c.named_before.ensures))
+returns-in-Refused c = passes (λ h. omega (arith, h)) (no_calendar c.by_eights-tab.ensures (rw c.in-Refused.is at c.named_before.ensures))
 
 pub returns-in-Calendar : goal.returns-in-Calendar
-returns-in-Calendar c = passes (λ h. omega (arith, h, c.if-line-gt-LONGEST_ENTRY.false)) (by_text (entry_from c.by_eights-tab.ensures c.text_from.ensures.0) (rw c.in-Calendar.is at c.named_before.ensures) c.parsed_from.ensures)
+returns-in-Calendar c = passes (λ h. omega (arith, h)) (by_text (entry_from c.by_eights-tab.ensures c.text_from.ensures.0) (rw c.in-Calendar.is at c.named_before.ensures) c.parsed_from.ensures)
