@@ -5,8 +5,8 @@
 
 ghost use Rattle.std.specs.Prelude.{◌≡◌, ◌+◌, ◌<◌, ◌≤◌, length};
 
-use calendar::{Calendar, Date, Dated, Style};
-use numbertext::Number;
+use calendar::{Calendar, Date, Style};
+use refusals::Refusal;
 
 // ---- The inputs: 4096 days of the years 1 to 2100. Day number and year are at 2 i in `signs`; ordinal, month, day, day ordinal and the length
 // of the text at 8 i in `counts`; the text at 16 i in `texts`
@@ -109,8 +109,8 @@ fn put_day(
     requires { (i < 4096) × (length signs.old ≡ 8192) × (length counts.old ≡ 32768) × (length texts.old ≡ 65536) }
 {
     match calendar.at_jdn(jdn) {
-        Dated::Date(d) => put(signs, counts, texts, i, d),
-        Dated::Refused(_) => {}
+        Ok(d) => put(signs, counts, texts, i, d),
+        Err(_) => {}
     }
 }
 
@@ -157,10 +157,10 @@ fn fields(d: Date) -> u64 {
     low ^ high ^ ((style_bit(style) as u64) << 62)
 }
 
-fn added(sum: u64, answer: Dated) -> u64 {
+fn added(sum: u64, answer: Result<Date, Refusal>) -> u64 {
     match answer {
-        Dated::Date(d) => plus(sum, fields(d)),
-        Dated::Refused(f) => plus(sum, f.number as u64),
+        Ok(d) => plus(sum, fields(d)),
+        Err(f) => plus(sum, f.number as u64),
     }
 }
 
@@ -311,8 +311,8 @@ fn rounds(order: &[u8]) -> u64
     ensures { result < 4294967296 }
 {
     match numbertext::number_at(order, 2) {
-        Number::Value(n, _) => n as u64,
-        Number::Refused(_) => 0,
+        Ok((n, _)) => n as u64,
+        Err(_) => 0,
     }
 }
 

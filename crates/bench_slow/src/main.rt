@@ -5,8 +5,8 @@
 // Each call stands in two places, before its loop and in it, so that the compiler leaves it a call.
 #![tactic(auto)]
 
-use calendar::{Calendar, Date, Dated, Style};
-use numbertext::Number;
+use calendar::{Calendar, Date, Style};
+use refusals::Refusal;
 
 // ---- The sum, as in `bench_calls`
 
@@ -31,10 +31,10 @@ fn fields(d: Date) -> u64 {
     low ^ high ^ ((style_bit(style) as u64) << 62)
 }
 
-fn added(sum: u64, answer: Dated) -> u64 {
+fn added(sum: u64, answer: Result<Date, Refusal>) -> u64 {
     match answer {
-        Dated::Date(d) => plus(sum, fields(d)),
-        Dated::Refused(f) => plus(sum, f.number as u64),
+        Ok(d) => plus(sum, fields(d)),
+        Err(f) => plus(sum, f.number as u64),
     }
 }
 
@@ -157,11 +157,11 @@ struct Part {
 
 fn part_at(order: &[u8], at: usize) -> Part {
     match numbertext::number_at(order, at) {
-        Number::Value(n, end) => Part {
+        Ok((n, end)) => Part {
             value: n,
             next: std::num::wrapping_add_usize(end, 1),
         },
-        Number::Refused(_) => Part { value: 0, next: 0 },
+        Err(_) => Part { value: 0, next: 0 },
     }
 }
 

@@ -4,9 +4,9 @@
 // dates.
 #![tactic(auto)]
 
-use calendar::{Calendar, Date, Dated, Style};
-use numbertext::Number;
-use walker::{Walked, Walker};
+use calendar::{Calendar, Date, Style};
+use walker::Walker;
+use refusals::Refusal;
 
 // ---- The sum, as in `bench_calls`
 
@@ -31,16 +31,16 @@ fn fields(d: Date) -> u64 {
     low ^ high ^ ((style_bit(style) as u64) << 62)
 }
 
-fn added(sum: u64, answer: Dated) -> u64 {
+fn added(sum: u64, answer: Result<Date, Refusal>) -> u64 {
     match answer {
-        Dated::Date(d) => plus(sum, fields(d)),
-        Dated::Refused(f) => plus(sum, f.number as u64),
+        Ok(d) => plus(sum, fields(d)),
+        Err(f) => plus(sum, f.number as u64),
     }
 }
 
 // ---- The walks
 
-fn walker_of(kind: u8, date: Date) -> Walked {
+fn walker_of(kind: u8, date: Date) -> Result<Walker, Refusal> {
     match kind {
         b'l' => walker::later(date),
         b'e' => walker::earlier(date),
@@ -64,10 +64,10 @@ fn steps(walker: Walker, sum: u64) -> u64 {
 
 fn walk(kind: u8, calendar: Calendar, sum: u64) -> u64 {
     match calendar.at_jdn(2_298_000) {
-        Dated::Refused(_) => sum,
-        Dated::Date(date) => match walker_of(kind, date) {
-            Walked::Refused(_) => sum,
-            Walked::Walker(walker) => steps(walker, sum),
+        Err(_) => sum,
+        Ok(date) => match walker_of(kind, date) {
+            Err(_) => sum,
+            Ok(walker) => steps(walker, sum),
         },
     }
 }
@@ -94,8 +94,8 @@ fn calendar_of(letter: u8) -> Calendar {
 
 fn rounds(order: &[u8]) -> u32 {
     match numbertext::number_at(order, 2) {
-        Number::Value(n, _) => n,
-        Number::Refused(_) => 0,
+        Ok((n, _)) => n,
+        Err(_) => 0,
     }
 }
 

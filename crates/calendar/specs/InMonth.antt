@@ -1,6 +1,6 @@
 -- The next day of a month: what `next_in_month` promises, that this is one answer, and that the answer is the record of the next day.
 -- Assumes nothing.
-use Rattle.std.specs.Prelude.{◌≡◌, refl, Bool, true, false, ℕ, suc, ◌+◌, ◌-◌, ◌<◌, ◌≤◌, ◌^◌, eqb, ℤ}
+use Rattle.std.specs.Prelude.{◌≡◌, refl, Bool, true, false, ℕ, suc, ◌+◌, ◌-◌, ◌<◌, ◌≤◌, ◌^◌, eqb, ℤ, Ok, Option, Some, None}
 use Rattle.std.proofs.Math.Path.{sym, subst}
 use Rattle.std.proofs.Common.{◌∙◌, ap, subst₂, ⊎_elim, arith, eqb-true}
 use Rattle.std.proofs.lemmas.Bool.{eqb-false}
@@ -23,7 +23,6 @@ use Rattle.inner.specs.Natural.{biased_day, biased_year_value}
 use Rattle.inner.specs.Laws.{biased_day_lem}
 use Rattle.inner.specs.Spots.{spot}
 use Rattle.monthdays.specs.Promise.{OrdinalOf}
-use Rattle.monthdays.specs.declared.DayOrdinal.TheVariants as DayOrdinal'
 use Rattle.switches.specs.declared.PlainYear.{PlainYear}
 use Rattle.switches.specs.Promise.{YearIn}
 use Rattle.switches.specs.One.{year_in_one}
@@ -31,9 +30,6 @@ use Rattle.switches.specs.Laws.{Wholly, wholly_old, wholly_new, wholly_none, ord
 use Rattle.ways.specs.Promise.{beside, Inside}
 use Rattle.ways.specs.Laws.{room_up, room_down}
 use Rattle.calendar.specs.declared.Date.{Date}
-use Rattle.calendar.specs.declared.Dated.TheVariants as Dated'
-use Rattle.calendar.specs.declared.Near.{Near}
-use Rattle.calendar.specs.declared.Near.TheVariants as Near'
 use Rattle.calendar.specs.Calendars.{definition_of, labels, style_of, IsRecord, Genuine}
 use Rattle.calendar.specs.Rows.{passes}
 use Rattle.calendar.specs.Promise.{record_of, Next}
@@ -69,11 +65,11 @@ abbrev pub moved_by : Bool → Date → Date
 moved_by l d = record { calendar = d.calendar; year = d.year; ordinal = one_on_value l d.ordinal; month = d.month; day = one_on_value l d.day; day_ordinal = one_on_value l d.day_ordinal; jdn = beside l d.jdn; style = d.style }
 
 -- next_in_month: that record, and then it is the answer of succ or pred too; or nothing yet
-pub data NextInMonth (l : Bool) (d : Date) : Near → Type 0 where
-  in_month : InMonth l d → Next d (beside l d.jdn) (Dated'.Date (moved_by l d)) → NextInMonth l d (Near'.Date (moved_by l d))
-  elsewhere : ¬ InMonth l d → NextInMonth l d Near'.Other
+pub data NextInMonth (l : Bool) (d : Date) : Option Date → Type 0 where
+  in_month : InMonth l d → Next d (beside l d.jdn) (Ok (moved_by l d)) → NextInMonth l d (Some (moved_by l d))
+  elsewhere : ¬ InMonth l d → NextInMonth l d None
 
-pub in_month_one : (l : Bool) (d : Date) (a b : Near) → NextInMonth l d a → NextInMonth l d b → a ≡ b
+pub in_month_one : (l : Bool) (d : Date) (a b : Option Date) → NextInMonth l d a → NextInMonth l d b → a ≡ b
 in_month_one l d a b (in_month p n) (in_month q i) = refl
 in_month_one l d a b (in_month p n) (elsewhere x) = absurd (x p)
 in_month_one l d a b (elsewhere x) (in_month q i) = absurd (x q)
@@ -122,11 +118,11 @@ year_style {y = y} i o (wholly_new z g) (h, k) (f, u) = sym (new_style (G.start 
 -- ---- A date in a year that is wholly in one reckoning, by its label
 module _ (d : Date) {r : ℕ} (y : ℕ) (runs : Runs (definition_of d.calendar) r) (h : BiasedYear (biased_year_value y)) (e : year (biased_year_value y) ≡ d.year) where
   -- the label is nowhere
-  pub none_genuine : {t : ℕ} {b : Bool} → Wholly r (biased_year_value y) t b → OrdinalOf b d.month d.day DayOrdinal'.Nothing → ¬ Genuine d
+  pub none_genuine : {t : ℕ} {b : Bool} → Wholly r (biased_year_value y) t b → OrdinalOf b d.month d.day None → ¬ Genuine d
   none_genuine w n g = let (i, j, o) = wholly_none y w (ordinal_none n) in (on_none runs (biased_year_value y) d.month d.day e h i j o).0 (d.jdn, g.is_record.label_is)
 
   -- or it has an ordinal
-  module _ {t o : ℕ} {b : Bool} (w : Wholly r (biased_year_value y) t b) (p : OrdinalOf b d.month d.day (DayOrdinal'.At o)) where
+  module _ {t o : ℕ} {b : Bool} (w : Wholly r (biased_year_value y) t b) (p : OrdinalOf b d.month d.day (Some o)) where
     abbrev here : OnSpot r (spot (t + o - 1) y o d.month d.day) × Plain r (spot (t + o - 1) y o d.month d.day)
     here = whole_label y h w p
 
@@ -257,21 +253,21 @@ pub usual_movable : (l : Bool) {d : Date} → Usual d → Inside l d.day → Is3
 usual_movable true u i f = (omega (arith, u.few), omega arith, omega (arith, u.day_ordinal_is), f)
 usual_movable false u i f = (u.some, omega arith, omega (arith, u.day_ordinal_is), f)
 
-pub near_found : (l : Bool) {d n : Date} → Usual d → Is32Bit d.jdn → Inside l d.day → Is32Bit (beside l d.jdn) → n ≡ moved_by l d → NextInMonth l d (Near'.Date n)
-near_found l {d} u h i f e = subst (λ (n : Date). NextInMonth l d (Near'.Date n)) (sym e)
+pub near_found : (l : Bool) {d n : Date} → Usual d → Is32Bit d.jdn → Inside l d.day → Is32Bit (beside l d.jdn) → n ≡ moved_by l d → NextInMonth l d (Some n)
+near_found l {d} u h i f e = subst (λ (n : Date). NextInMonth l d (Some n)) (sym e)
     (in_month (record { genuine = u.genuine; whole_year = u.whole_year; inside = i; here_fits = h; next_fits = f }) (passes u.genuine (passes f (record_of (u.next l i)))))
 
-pub not_staying : (l : Bool) {d : Date} → ¬ (Inside l d.day × Is32Bit (beside l d.jdn)) → NextInMonth l d Near'.Other
+pub not_staying : (l : Bool) {d : Date} → ¬ (Inside l d.day × Is32Bit (beside l d.jdn)) → NextInMonth l d None
 not_staying l n = elsewhere (λ i. n (i.inside, i.next_fits))
 
-pub not_usual : (l : Bool) {d : Date} → ¬ (Genuine d × WholeYear d) → NextInMonth l d Near'.Other
+pub not_usual : (l : Bool) {d : Date} → ¬ (Genuine d × WholeYear d) → NextInMonth l d None
 not_usual l n = elsewhere (λ i. n (i.genuine, i.whole_year))
 
-pub near_fits : (l : Bool) {d n : Date} → NextInMonth l d (Near'.Date n) → Is32Bit d.jdn
+pub near_fits : (l : Bool) {d n : Date} → NextInMonth l d (Some n) → Is32Bit d.jdn
 near_fits l (in_month i p) = i.here_fits
 
 -- it is that of succ and pred
-pub near_next : (l : Bool) {d n : Date} → NextInMonth l d (Near'.Date n) → Next d (beside l d.jdn) (Dated'.Date n)
+pub near_next : (l : Bool) {d n : Date} → NextInMonth l d (Some n) → Next d (beside l d.jdn) (Ok n)
 near_next l (in_month i p) = p
 
 pub beside_room : (l : Bool) {n : ℤ} (x : ℕ) → unbias (2 ^ 31) x ≡ n → x < 2 ^ 32 → Is32Bit (beside l n) → OneOn l x

@@ -1,6 +1,6 @@
 -- From what the private functions say to the promises.
 -- Assumes nothing.
-use Rattle.std.specs.Prelude.{◌≡◌, refl, Bool, true, false, cond, ℕ, zero, suc, ◌+◌, ◌-◌, ◌*◌, ◌/◌, ◌%◌, ◌<◌, ◌≤◌, ◌^◌, eqb, ℤ, pos}
+use Rattle.std.specs.Prelude.{◌≡◌, refl, Bool, true, false, cond, ℕ, zero, suc, ◌+◌, ◌-◌, ◌*◌, ◌/◌, ◌%◌, ◌<◌, ◌≤◌, ◌^◌, eqb, ℤ, pos, Result, Ok, Err, Some, None}
 use Rattle.std.proofs.Common.{sym, ◌∙◌, ap, ap₂, subst, subst₂, inl, inr, ⊎_elim, arith, lt-ltb, le-ltb}
 use Rattle.whole.specs.Tests.{lt_or_ge}
 use Rattle.whole.specs.Promise.{unbias}
@@ -23,46 +23,34 @@ use Rattle.inner.specs.Natural.{biased_day, biased_year_value, Lowers, within, b
 use Rattle.monthdays.specs.Promise.{MonthDayAt, OrdinalOf}
 use Rattle.inner.specs.Laws.{biased_day_lem, julian_alone, gregorian_alone, spot_of_year}
 use Rattle.monthdays.specs.Laws.{month_day_in}
-use Rattle.inner.specs.declared.DayNumber.{DayNumber}
-use Rattle.inner.specs.declared.DayNumber.TheVariants as DayNumber'
-use Rattle.monthdays.specs.declared.DayOrdinal.TheVariants as DayOrdinal'
 use Rattle.fields.specs.declared.Fields.{Fields}
 use Rattle.fields.specs.Promise.{IsSame}
 use Rattle.switches.specs.Promise.{Judges, accepts_biased, refuses_with_1, refuses_with_2, YearSpan, Finds, finds_old, finds_new, finds_gap, finds_none, RefusesNonGregorian, taken_away, never_there}
 use Rattle.switches.specs.JudgingLaws.{refused_not}
-use Rattle.switches.specs.declared.reformation.Judgement.TheVariants as Judgement'
 use Rattle.calendar.specs.declared.Calendar.{Calendar}
 use Rattle.calendar.specs.declared.Calendar.TheVariants.{Reforming}
 use Rattle.calendar.specs.declared.Style.{Style}
 use Rattle.calendar.specs.declared.Style.TheVariants as Style'
 use Rattle.calendar.specs.declared.Date.{Date}
-use Rattle.calendar.specs.declared.Told.{Told}
-use Rattle.calendar.specs.declared.Told.TheVariants as Told'
-use Rattle.calendar.specs.declared.Chosen.TheVariants as Chosen'
-use Rattle.calendar.specs.declared.Dated.{Dated}
-use Rattle.calendar.specs.declared.Dated.TheVariants as Dated'
-use Rattle.calendar.specs.declared.Switch.TheVariants as Switch'
 use Rattle.calendar.specs.declared.record.DayInYear as P
-use Rattle.calendar.specs.declared.record.Placed.TheVariants as Placed'
-use Rattle.calendar.specs.declared.record.Read.TheVariants as Read'
 use Rattle.inner.specs.declared.Spot as S
 use Rattle.inner.specs.Spots.{At, spot, at_number, at_from, at_few}
-use Rattle.switches.specs.declared.Found.TheVariants as Found'
 use Rattle.switches.specs.Laws.{starts_close, Wholly, wholly_old, wholly_new, wholly_none, wholly_days, ordinal_sum, read_at}
 use Rattle.refusals.specs.declared.Refusal.{Refusal}
-use Rattle.ways.specs.declared.Neighbour.TheVariants as Neighbour'
 use Rattle.ways.specs.Promise.{IsNeighbour, there, nowhere}
 use Rattle.calendar.specs.Calendars.{definition_of, labels, Accepted, style_of, IsRecord, Genuine, same_style, style_is_value}
 use Rattle.calendar.specs.Rows.{refuses, passes}
 use Rattle.calendar.specs.Promise.{refusal, refused, refused_reformation_value, Reforms, judged, RecordOf, record_of, Given, on_label, ByOrdinal, OffYear, on_ordinal, AtJdn, AtYmd, AtOrdinal, IsGenuine, TellsDate, Next, ConvertsTo, OfALabel}
 use Rattle.calendar.specs.One.{whole, record_one}
 use Rattle.calendar.specs.Natural.{SwitchIs, switches_at, no_calendar, SomeSwitch, LabelledAt, old, new, OnSpot, plain_record_value, Plain, SpotAt, IsPlace, plain_place_value, record_at, ReadsLabel, reads_at, reads_none, LabelAt, LaterLabel, PlacesOrdinal, ordinal_at_place, ordinal_off, LaterOrdinal, pair, TurnsLabel, turns_at, turns_gap, turns_none, TurnsOrdinal, turns_day, Turns, style_at_value, style_number_value, fields_of, is_of_style}
+use Rattle.inner.specs.declared.NoNumber.{NoNumber}
+use Rattle.inner.specs.declared.NoNumber.TheVariants as NoNumber'
 
 -- ---- Where a calendar switches
-pub switch_accepted : {r : ℤ} {k : ℕ} → Judges r (Judgement'.Accepted k) → SwitchIs (Reforming r) (Switch'.At k)
-switch_accepted {k = k} (accepts_biased (all_three a) e) = subst (λ (r : ℤ). SwitchIs (Reforming r) (Switch'.At k)) e (switches_at (reforming_runs k (subst AcceptedReformation (sym e) a)))
+pub switch_accepted : {r : ℤ} {k : ℕ} → Judges r (Ok k) → SwitchIs (Reforming r) (Ok k)
+switch_accepted {k = k} (accepts_biased (all_three a) e) = subst (λ (r : ℤ). SwitchIs (Reforming r) (Ok k)) e (switches_at (reforming_runs k (subst AcceptedReformation (sym e) a)))
 
-pub switch_refused : {r : ℤ} {n : ℕ} → Judges r (Judgement'.Refused n) → SwitchIs (Reforming r) Switch'.MadeUp
+pub switch_refused : {r : ℤ} {n : ℕ} → Judges r (Err n) → SwitchIs (Reforming r) (Err made_up)
 switch_refused {r} j = no_calendar not
   where
     not : ¬ Accepted (Reforming r)
@@ -207,35 +195,35 @@ labelled_new (new h a) g = a
 
 -- ---- The rows of a label
 module _ (c : Calendar) {r : ℕ} (runs : Runs (definition_of c) r) {y m d : ℕ} {z : ℤ} (h : BiasedYear (biased_year_value y)) (e : year (biased_year_value y) ≡ z) where
-  pub found_label : {s : S.Spot} → Finds r y m d (Found'.At s) → labels c (day s.biased) ≡ label z m d
+  pub found_label : {s : S.Spot} → Finds r y m d (Ok s) → labels c (day s.biased) ≡ label z m d
   found_label (finds_old g a) = labelled_is c runs (old g a) ∙ ap (λ (z : ℤ). label z m d) e
   found_label (finds_new g a n) = labelled_is c runs (new g a) ∙ ap (λ (z : ℤ). label z m d) e
 
   -- 4, 5, and then the rows below, in every call that is asked about a label
-  pub label_row : {A : Type 0} (refused : Refusal → A) {Below : A → Type 0} {s : S.Spot} {a : A} → Finds r y m d (Found'.At s) → Below a → OfALabel c z m d refused Below a
+  pub label_row : {A : Type 0} (refused : Refusal → A) {Below : A → Type 0} {s : S.Spot} {a : A} → Finds r y m d (Ok s) → Below a → OfALabel c z m d refused Below a
   label_row refused {s = s} f b =
       let l : labels c (day s.biased) ≡ label z m d = found_label f in
       passes (λ n. n.0 (day s.biased, l)) (passes (λ i. skipped_nowhere runs.accepted i (day s.biased, l)) b)
 
-  pub refused_row : {A : Type 0} (refused : Refusal → A) {Below : A → Type 0} {f : Refusal} → Finds r y m d (Found'.Refused f) → OfALabel c z m d refused Below (refused f)
+  pub refused_row : {A : Type 0} (refused : Refusal → A) {Below : A → Type 0} {f : Refusal} → Finds r y m d (Err f) → OfALabel c z m d refused Below (refused f)
   refused_row refused (finds_gap t u v) = let s = in_gap runs (biased_year_value y) m d e h t u v in passes (λ n. n.1 s) (refuses s)
   refused_row refused (finds_none n l o) = refuses (on_none runs (biased_year_value y) m d e h n l o)
 
-  pub refused_nowhere : {f : Refusal} → Finds r y m d (Found'.Refused f) → ¬ Borne (labels c) (label z m d)
+  pub refused_nowhere : {f : Refusal} → Finds r y m d (Err f) → ¬ Borne (labels c) (label z m d)
   refused_nowhere (finds_gap t u v) = skipped_nowhere runs.accepted (in_gap runs (biased_year_value y) m d e h t u v)
   refused_nowhere (finds_none n l o) = (on_none runs (biased_year_value y) m d e h n l o).0
 
 -- ---- A day that is found, in 32 bits
-pub given_biased : (c : Calendar) {k : ℕ} {n z : ℤ} {d : Date} → Lowers k (DayNumber'.Day n) → IsRecord c n d → Given c z (day k) (Dated'.Date d)
+pub given_biased : (c : Calendar) {k : ℕ} {n z : ℤ} {d : Date} → Lowers k (Ok n) → IsRecord c n d → Given c z (day k) (Ok d)
 given_biased c (within w) i = passes (fits_biased w) (record_of i)
 
-pub lowered_day : {k : ℕ} {n : ℤ} → Lowers k (DayNumber'.Day n) → day k ≡ n
+pub lowered_day : {k : ℕ} {n : ℤ} → Lowers k (Ok n) → day k ≡ n
 lowered_day (within w) = refl
 
-pub given_far : (c : Calendar) {k : ℕ} {z : ℤ} → Lowers k DayNumber'.Outside32 → Given c z (day k) (refused 7 z)
+pub given_far : (c : Calendar) {k : ℕ} {z : ℤ} → Lowers k (Err NoNumber'.Outside32) → Given c z (day k) (refused 7 z)
 given_far c (beyond b) = refuses b
 
-pub given_none : {k : ℕ} {d : DayNumber} → d ≡ DayNumber'.Nothing → Lowers k d → ⊥
+pub given_none : {k : ℕ} {d : Result ℤ NoNumber} → d ≡ Err NoNumber'.Nothing → Lowers k d → ⊥
 given_none e (within w) = let z : ◌≡◌ {A = ℕ} 0 1 = cc in omega arith
 given_none e (beyond b) = let z : ◌≡◌ {A = ℕ} 0 1 = cc in omega arith
 
@@ -251,24 +239,24 @@ pub spot_new : {r k y o : ℕ} {b : Bool} {s : S.Spot} → BiasedYear (biased_ye
 spot_new {r} h g p e q = subst (OnSpot r) (sym q.is) (new g (spot_made h p e q))
 
 -- ---- What a switch says
-pub switch_runs : (c : Calendar) {r : ℕ} → SwitchIs c (Switch'.At r) → Runs (definition_of c) r
+pub switch_runs : (c : Calendar) {r : ℕ} → SwitchIs c (Ok r) → Runs (definition_of c) r
 switch_runs c (switches_at p) = p
 
-pub switch_made_up : (c : Calendar) → SwitchIs c Switch'.MadeUp → ¬ Accepted c
+pub switch_made_up : (c : Calendar) → SwitchIs c (Err made_up) → ¬ Accepted c
 switch_made_up c (no_calendar n) = n
 
 -- the first day of a month in the Julian reckoning
-pub julian_month_is : {leap : Bool} (y : ℕ) {m o t : ℕ} → leap ≡ J.leap_at y → t ≡ J.start y → OrdinalOf leap m 1 (DayOrdinal'.At o) → t + o - 1 ≡ julian_month_value y m
+pub julian_month_is : {leap : Bool} (y : ℕ) {m o t : ℕ} → leap ≡ J.leap_at y → t ≡ J.start y → OrdinalOf leap m 1 (Some o) → t + o - 1 ≡ julian_month_value y m
 julian_month_is {leap} y {m} {o} {t} e f p = sum (days_before_value leap m) (ordinal_sum p).1 ∙ ap₂ ◌+◌ f (ap (λ (b : Bool). days_before_value b m) e)
   where
     sum : (b : ℕ) → b + 1 ≡ o → t + o - 1 ≡ t + b
     sum b q = omega arith
 
 -- ---- Reformations
-pub reforms_accepted : {r : ℤ} {k : ℕ} → Judges r (Judgement'.Accepted k) → Reforms r (Chosen'.Calendar (Reforming r))
+pub reforms_accepted : {r : ℤ} {k : ℕ} → Judges r (Ok k) → Reforms r (Ok (Reforming r))
 reforms_accepted (accepts_biased j e) = judged j
 
-pub reforms_refused : {r : ℤ} {n : ℕ} → Judges r (Judgement'.Refused n) → Reforms r (refused_reformation_value n r)
+pub reforms_refused : {r : ℤ} {n : ℕ} → Judges r (Err n) → Reforms r (refused_reformation_value n r)
 reforms_refused (refuses_with_1 j) = judged j
 reforms_refused (refuses_with_2 j) = judged j
 
@@ -342,7 +330,7 @@ style_number_one Style'.Swedish Style'.Julian e = absurd (omega arith)
 style_number_one Style'.Swedish Style'.Gregorian e = absurd (omega arith)
 style_number_one Style'.Swedish Style'.Swedish e = refl
 
-pub genuine_by : {d t : Date} → RecordOf d.calendar d.jdn (Dated'.Date t) → Accepted d.calendar → fields_of d ≡ fields_of t → Genuine d
+pub genuine_by : {d t : Date} → RecordOf d.calendar d.jdn (Ok t) → Accepted d.calendar → fields_of d ≡ fields_of t → Genuine d
 unfolding whole
 genuine_by {d} {t} (record_of i) a g = record { accepted = a; is_record = subst (IsRecord d.calendar d.jdn) same i }
   where
@@ -359,34 +347,34 @@ genuine_by {d} {t} (record_of i) a g = record { accepted = a; is_record = subst 
         let w : whole t.calendar t.year t.ordinal t.month t.day t.day_ordinal t.jdn t.style ≡ whole d.calendar d.year d.ordinal d.month d.day d.day_ordinal d.jdn d.style = cc in
         w
 
-not_genuine : {d t : Date} → RecordOf d.calendar d.jdn (Dated'.Date t) → ¬ (fields_of d ≡ fields_of t) → ¬ Genuine d
+not_genuine : {d t : Date} → RecordOf d.calendar d.jdn (Ok t) → ¬ (fields_of d ≡ fields_of t) → ¬ Genuine d
 not_genuine {d} (record_of i) n g = n (ap fields_of (record_one g.is_record i))
 
 -- what is promised for a day number is promised for the same number written otherwise
-pub at_same_jdn : {c : Calendar} {n m : ℤ} {a : Dated} → n ≡ m → AtJdn c n a → AtJdn c m a
+pub at_same_jdn : {c : Calendar} {n m : ℤ} {a : Result Date Refusal} → n ≡ m → AtJdn c n a → AtJdn c m a
 at_same_jdn {c} {a = a} e p = subst (λ (k : ℤ). AtJdn c k a) e p
 
 -- from the record of its day number in its calendar
-pub genuine_compared : (d t : Date) (b : Bool) → AtJdn d.calendar d.jdn (Dated'.Date t) → IsSame (fields_of d) (fields_of t) b → IsGenuine d b
+pub genuine_compared : (d t : Date) (b : Bool) → AtJdn d.calendar d.jdn (Ok t) → IsSame (fields_of d) (fields_of t) b → IsGenuine d b
 genuine_compared d t true (passes a r) s = genuine_by r a s
 genuine_compared d t false (passes a r) s = not_genuine r s
 
-pub genuine_refused : {d : Date} {a : Dated} {f : Refusal} → a ≡ Dated'.Refused f → AtJdn d.calendar d.jdn a → ¬ Genuine d
+pub genuine_refused : {d : Date} {a : Result Date Refusal} {f : Refusal} → a ≡ Err f → AtJdn d.calendar d.jdn a → ¬ Genuine d
 genuine_refused e (refuses x) g = x g.accepted
 genuine_refused e (passes a (record_of i)) g = let z : ◌≡◌ {A = ℕ} 0 1 = cc in omega arith
 
 -- the record of a day next to it
-pub next_row : {d : Date} {n : ℤ} {a : Dated} → Genuine d → Is32Bit n → AtJdn d.calendar n a → Next d n a
+pub next_row : {d : Date} {n : ℤ} {a : Result Date Refusal} → Genuine d → Is32Bit n → AtJdn d.calendar n a → Next d n a
 next_row g f (refuses x) = absurd (x g.accepted)
 next_row g f (passes x r) = passes g (passes f r)
 
-pub nowhere_outside : {n : ℤ} → IsNeighbour n Neighbour'.Nowhere → ¬ Is32Bit n
+pub nowhere_outside : {n : ℤ} → IsNeighbour n None → ¬ Is32Bit n
 nowhere_outside (nowhere x) = x
 
-pub day_there : {n k : ℤ} → IsNeighbour n (Neighbour'.Day k) → Is32Bit n × (k ≡ n)
+pub day_there : {n k : ℤ} → IsNeighbour n (Some k) → Is32Bit n × (k ≡ n)
 day_there (there f) = (f, refl)
 
-pub converts_row : {d : Date} {c : Calendar} {a : Dated} → Genuine d → AtJdn c d.jdn a → ConvertsTo d c a
+pub converts_row : {d : Date} {c : Calendar} {a : Result Date Refusal} → Genuine d → AtJdn c d.jdn a → ConvertsTo d c a
 converts_row g (refuses x) = refuses (λ p. x p.1)
 converts_row g (passes x r) = passes (g, x) r
 
@@ -403,16 +391,16 @@ same_style_lem SwedishStyle GregorianStyle = refl
 same_style_lem SwedishStyle SwedishStyle = refl
 
 -- that of a genuine record is that of its day
-pub tells_style : (a : D.Style) {d : Date} {b : Told} → TellsDate d (is_of_style d (style_of a)) b → TellsDate d (style_is_value a d) b
+pub tells_style : (a : D.Style) {d : Date} {b : Result Bool Refusal} → TellsDate d (is_of_style d (style_of a)) b → TellsDate d (style_is_value a d) b
 tells_style a (refuses x) = refuses x
-tells_style a {d} (passes g e) = passes g (e ∙ ap Told'.Is (ap (λ (v : Style). eqb (style_number_value v) (style_number_value (style_of a))) g.is_record.style_is ∙ same_style_lem a (style (definition_of d.calendar) d.jdn)))
+tells_style a {d} (passes g e) = passes g (e ∙ ap Ok (ap (λ (v : Style). eqb (style_number_value v) (style_number_value (style_of a))) g.is_record.style_is ∙ same_style_lem a (style (definition_of d.calendar) d.jdn)))
 
 -- ---- The day of the reformation
 pub reform_some : {r : ℤ} (x : ℕ) → Accepted (Reforming r) → unbias (2 ^ 31) x ≡ r → 1 ≤ x
 reform_some x (D.reforming_accepted a) e = omega (arith, accepts_only (biased_day x) (omega arith) (subst D.AcceptedReformation (sym (biased_day_lem x ∙ e)) a))
 
 -- ---- The rows of a day that is found: by its label, and by its place in its year
-module _ {c : Calendar} {n z : ℤ} {a : Dated} (acc : Accepted c) (g : Given c z n a) where
+module _ {c : Calendar} {n z : ℤ} {a : Result Date Refusal} (acc : Accepted c) (g : Given c z n a) where
   pub label_given : {m d : ℕ} → labels c n ≡ label z m d → AtYmd c z m d a
   label_given {m} {d} e =
       let p = labels_proper (definition_of c) n in
@@ -460,7 +448,7 @@ module _ (y : ℕ) {r : ℕ} (h : BiasedYear (biased_year_value y)) where
   whole_there {m = m} {d} (wholly_old g) v e = in_old g (read_at J.leap_at J.start y m d h refl refl v e)
   whole_there {m = m} {d} (wholly_new f g) v e = in_new g (read_at G.leap_at G.start y m d h refl refl v e)
 
-  pub whole_label : {t : ℕ} {b : Bool} {m d o : ℕ} → Wholly r (biased_year_value y) t b → OrdinalOf b m d (DayOrdinal'.At o) → OnSpot r (spot (t + o - 1) y o m d) × Plain r (spot (t + o - 1) y o m d)
+  pub whole_label : {t : ℕ} {b : Bool} {m d o : ℕ} → Wholly r (biased_year_value y) t b → OrdinalOf b m d (Some o) → OnSpot r (spot (t + o - 1) y o m d) × Plain r (spot (t + o - 1) y o m d)
   whole_label w p = let (v, e) = ordinal_sum p in whole_there w v e
 
   pub whole_ordinal : {t : ℕ} {b : Bool} {o : ℕ} {s : S.Spot} → Wholly r (biased_year_value y) t b → 1 ≤ o → o ≤ year_length b → SpotAt (t + o - 1) y o b s → OnSpot r s × Plain r s
@@ -502,10 +490,10 @@ module _ (c : Calendar) {r y : ℕ} (runs : Runs (definition_of c) r) {p : P.Day
   place_label : labels c (day (p.past - 1)) ≡ label z p.month p.day
   place_label = ap (λ (k : ℕ). labels c (day k)) (sym biased_past) ∙ biased_label
 
-  pub place_ymd : {m d : ℕ} {a : Dated} → p.month ≡ m → p.day ≡ d → Given c z (day (p.past - 1)) a → AtYmd c z m d a
+  pub place_ymd : {m d : ℕ} {a : Result Date Refusal} → p.month ≡ m → p.day ≡ d → Given c z (day (p.past - 1)) a → AtYmd c z m d a
   place_ymd {a = a} f g q = subst₂ (λ (m d : ℕ). AtYmd c z m d a) f g (label_given runs.accepted q place_label)
 
-  pub place_ordinal : {o : ℕ} {a : Dated} → p.ordinal ≡ o → Given c z (day (p.past - 1)) a → AtOrdinal c z o a
+  pub place_ordinal : {o : ℕ} {a : Result Date Refusal} → p.ordinal ≡ o → Given c z (day (p.past - 1)) a → AtOrdinal c z o a
   place_ordinal {a = a} f g = subst (λ (o : ℕ). AtOrdinal c z o a) f (ordinal_given runs.accepted g (ap (λ (l : Label). l.year) place_label) place)
     where
       there : Place (λ d. OfYear z (labels c d)) (day s.biased) p.ordinal
@@ -515,8 +503,8 @@ module _ (c : Calendar) {r y : ℕ} (runs : Runs (definition_of c) r) {p : P.Day
       place : Place (λ d. OfYear z (labels c d)) (day (p.past - 1)) p.ordinal
       place = subst (λ (k : ℕ). Place (λ d. OfYear z (labels c d)) (day k) p.ordinal) biased_past there
 
-pub given_place : (c : Calendar) (p : P.DayInYear) {z n : ℤ} → Lowers (p.past - 1) (DayNumber'.Day n) → IsRecord c (day (p.past - 1)) (record_at c z p)
-    → Given c z (day (p.past - 1)) (Dated'.Date (whole c z p.ordinal p.month p.day p.day_ordinal n p.style))
+pub given_place : (c : Calendar) (p : P.DayInYear) {z n : ℤ} → Lowers (p.past - 1) (Ok n) → IsRecord c (day (p.past - 1)) (record_at c z p)
+    → Given c z (day (p.past - 1)) (Ok (whole c z p.ordinal p.month p.day p.day_ordinal n p.style))
 unfolding whole
 given_place c p {z} w i =
     given_biased c w (subst (λ (n : ℤ). IsRecord c n (whole c z p.ordinal p.month p.day p.day_ordinal n p.style)) (lowered_day w) i)
@@ -549,30 +537,30 @@ begun {r} y f g i = absurd (never_both (J.start (biased_year_value y)) i (subst 
 
 module _ {r m d t : ℕ} {b : Bool} (y : ℕ) (h : BiasedYear (biased_year_value y)) where
   -- a Julian day before the switch, and a day of a year that begins from the switch on
-  pub early_old : {s : S.Spot} → SomeSwitch r → b ≡ J.leap_at (biased_year_value y) → t ≡ J.start (biased_year_value y) → ReadsLabel b t y m d (Read'.At s) → s.biased < r → LabelAt r y m d (plain_place_value Style'.Julian s)
+  pub early_old : {s : S.Spot} → SomeSwitch r → b ≡ J.leap_at (biased_year_value y) → t ≡ J.start (biased_year_value y) → ReadsLabel b t y m d (Some s) → s.biased < r → LabelAt r y m d (plain_place_value Style'.Julian s)
   early_old w e f (reads_at {o} v q) g =
       (plain_stands w (spot (t + o - 1) y o m d) (old g (read_at J.leap_at J.start y m d h e f v q)) (λ i. absurd (never_both (t + o - 1) i g)) (old_style (t + o - 1) g), refl, refl)
 
-  pub early_new : {s : S.Spot} → SomeSwitch r → b ≡ G.leap_at (biased_year_value y) → t ≡ G.start (biased_year_value y) → ReadsLabel b t y m d (Read'.At s) → r ≤ t → LabelAt r y m d (plain_place_value Style'.Gregorian s)
+  pub early_new : {s : S.Spot} → SomeSwitch r → b ≡ G.leap_at (biased_year_value y) → t ≡ G.start (biased_year_value y) → ReadsLabel b t y m d (Some s) → r ≤ t → LabelAt r y m d (plain_place_value Style'.Gregorian s)
   early_new w e f (reads_at {o} v q) g =
       let a = read_at G.leap_at G.start y m d h e f v q in
       let (l, p) = in_new (subst (λ (k : ℕ). r ≤ k) f g) a in
       (plain_stands w (spot (t + o - 1) y o m d) l p (new_style (t + o - 1) (omega (arith, at_from a))), refl, refl)
 
   -- a label that a year has not which is wholly in one reckoning
-  pub old_none : b ≡ J.leap_at (biased_year_value y) → t ≡ J.start (biased_year_value y) → ReadsLabel b t y m d Read'.Nothing → t + 366 < r → Finds r y m d (Found'.Refused (refusal 4 (pos d)))
+  pub old_none : b ≡ J.leap_at (biased_year_value y) → t ≡ J.start (biased_year_value y) → ReadsLabel b t y m d None → t + 366 < r → Finds r y m d (Err (refusal 4 (pos d)))
   old_none e f (reads_none n) g = let (i, j, o) = wholly_none y (wholly_old (subst (λ (k : ℕ). k + 366 < r) f g)) (subst (λ (b : Bool). ¬ ThereIn b m d) e n) in finds_none i j o
 
-  pub new_none : b ≡ G.leap_at (biased_year_value y) → t ≡ G.start (biased_year_value y) → ReadsLabel b t y m d Read'.Nothing → {u : ℕ} → u ≡ J.start (biased_year_value y) → r ≤ u → r ≤ t → Finds r y m d (Found'.Refused (refusal 4 (pos d)))
+  pub new_none : b ≡ G.leap_at (biased_year_value y) → t ≡ G.start (biased_year_value y) → ReadsLabel b t y m d None → {u : ℕ} → u ≡ J.start (biased_year_value y) → r ≤ u → r ≤ t → Finds r y m d (Err (refusal 4 (pos d)))
   new_none e f (reads_none n) k i g =
       let (i, j, o) = wholly_none y (wholly_new (subst (λ (k : ℕ). r ≤ k) k i) (subst (λ (k : ℕ). r ≤ k) f g)) (subst (λ (b : Bool). ¬ ThereIn b m d) e n) in
       finds_none i j o
 
   -- one that is looked for from the switch on
-  pub later_none : b ≡ J.leap_at (biased_year_value y) → t ≡ J.start (biased_year_value y) → t < r → ReadsLabel b t y m d Read'.Nothing → LaterLabel r y m d
+  pub later_none : b ≡ J.leap_at (biased_year_value y) → t ≡ J.start (biased_year_value y) → t < r → ReadsLabel b t y m d None → LaterLabel r y m d
   later_none e f g (reads_none n) = (λ i. absurd (n (i.0, i.1, i.2, subst (λ (b : Bool). d ≤ month_length b m) (sym e) i.3)), begun y f g)
 
-  pub later_late : {s : S.Spot} → b ≡ J.leap_at (biased_year_value y) → t ≡ J.start (biased_year_value y) → t < r → ReadsLabel b t y m d (Read'.At s) → r ≤ s.biased → LaterLabel r y m d
+  pub later_late : {s : S.Spot} → b ≡ J.leap_at (biased_year_value y) → t ≡ J.start (biased_year_value y) → t < r → ReadsLabel b t y m d (Some s) → r ≤ s.biased → LaterLabel r y m d
   later_late e f g (reads_at v q) i = (λ j. subst (λ (n : ℕ). r ≤ n) (sym (at_number (read_at J.leap_at J.start y m d h e f v q))) i, begun y f g)
 
 pub later_new : {r m d t u : ℕ} (y : ℕ) → t ≡ J.start (biased_year_value y) → r ≤ t → u ≡ G.start (biased_year_value y) → u < r → LaterLabel r y m d
@@ -583,7 +571,7 @@ later_new {r} {m} {d} y f g e i = (λ j. late (J.start (biased_year_value y)) (d
 
 -- what is found from the switch on: 4, 5, or the places
 module _ {r m d : ℕ} (y : ℕ) (l : LaterLabel r y m d) where
-  pub later_refused : {t : ℕ} → TurnsLabel r y m d t → t < 4_294_967_296 → Finds r y m d (Found'.Refused (refusal t (pos d)))
+  pub later_refused : {t : ℕ} → TurnsLabel r y m d t → t < 4_294_967_296 → Finds r y m d (Err (refusal t (pos d)))
   later_refused (turns_at {i} {j} g a u v e f) h = absurd (large i j u h)
     where
       large : (i j : ℕ) → 1 ≤ i → pair i j < 4_294_967_296 → ⊥
@@ -627,13 +615,13 @@ module _ {r m d : ℕ} (y : ℕ) (l : LaterLabel r y m d) where
 
 -- ---- From a place in a year
 module _ {r : ℕ} (y : ℕ) {o : ℕ} (h : BiasedYear (biased_year_value y)) where
-  pub off_low : o < 1 → PlacesOrdinal r y o (Placed'.Refused (refusal 6 (pos o)))
+  pub off_low : o < 1 → PlacesOrdinal r y o (Err (refusal 6 (pos o)))
   off_low n = ordinal_off (inl (omega arith))
 
-  pub off_whole : {t : ℕ} {b : Bool} → Wholly r (biased_year_value y) t b → year_length b < o → PlacesOrdinal r y o (Placed'.Refused (refusal 6 (pos o)))
+  pub off_whole : {t : ℕ} {b : Bool} → Wholly r (biased_year_value y) t b → year_length b < o → PlacesOrdinal r y o (Err (refusal 6 (pos o)))
   off_whole w n = ordinal_off (inr (subst (λ (k : ℕ). k < o) (sym (wholly_days (biased_year_value y) w)) n))
 
-  pub off_span : {a b : ℕ} → YearSpan r (biased_year_value y) a b → 1 ≤ o → b < a + o → PlacesOrdinal r y o (Placed'.Refused (refusal 6 (pos o)))
+  pub off_span : {a b : ℕ} → YearSpan r (biased_year_value y) a b → 1 ≤ o → b < a + o → PlacesOrdinal r y o (Err (refusal 6 (pos o)))
   off_span s u n = ordinal_off (inr (omega (arith, s.first_is, s.past_is)))
 
   -- of a spot that was made of it
@@ -700,10 +688,10 @@ module _ {r : ℕ} (y : ℕ) {o : ℕ} (h : BiasedYear (biased_year_value y)) wh
       style_is = new_style k (omega (arith, s.first_is));
     })
 
-pub ordinal_placed : {r y o : ℕ} {p : P.DayInYear} → PlacesOrdinal r y o (Placed'.At p) → IsPlace r y p × (p.ordinal ≡ o)
+pub ordinal_placed : {r y o : ℕ} {p : P.DayInYear} → PlacesOrdinal r y o (Ok p) → IsPlace r y p × (p.ordinal ≡ o)
 ordinal_placed (ordinal_at_place i e) = (i, e)
 
-pub off_row : (c : Calendar) {r : ℕ} (runs : Runs (definition_of c) r) (y : ℕ) {o : ℕ} {z : ℤ} {f : Refusal} → BiasedYear (biased_year_value y) → year (biased_year_value y) ≡ z → PlacesOrdinal r y o (Placed'.Refused f) → AtOrdinal c z o (Dated'.Refused f)
+pub off_row : (c : Calendar) {r : ℕ} (runs : Runs (definition_of c) r) (y : ℕ) {o : ℕ} {z : ℤ} {f : Refusal} → BiasedYear (biased_year_value y) → year (biased_year_value y) ≡ z → PlacesOrdinal r y o (Err f) → AtOrdinal c z o (Err f)
 off_row c {r} runs y {o} h e (ordinal_off n) = passes runs.accepted (subst (λ (z : ℤ). ByOrdinal c z o (refused 6 (pos o))) e
     (refuses (year_first r (biased_year_value y + 1) - year_first r (biased_year_value y), (year_stretch runs (biased_year_value y) h).days, n)))
 
@@ -757,24 +745,24 @@ label_turning (suc m) h p = p
 
 -- a label in the Gregorian reckoning
 module _ {r y m d t : ℕ} {b : Bool} (h : BiasedYear (biased_year_value y)) (e : b ≡ G.leap_at (biased_year_value y)) (f : t ≡ G.start (biased_year_value y)) where
-  pub reads_new : {s : S.Spot} → ReadsLabel b t y m d (Read'.At s) → r ≤ s.biased → OnSpot r s
+  pub reads_new : {s : S.Spot} → ReadsLabel b t y m d (Some s) → r ≤ s.biased → OnSpot r s
   reads_new (reads_at v q) g = new g (read_at G.leap_at G.start y m d h e f v q)
 
-  pub reads_room : {s : S.Spot} {j w : ℕ} → ReadsLabel b t y m d (Read'.At s) → r ≤ s.biased → j ≡ J.start (biased_year_value y) → w ≡ first_day_value r j t → (w ≤ s.biased) × (s.biased + 1 - w < 4_294_967_296)
+  pub reads_room : {s : S.Spot} {j w : ℕ} → ReadsLabel b t y m d (Some s) → r ≤ s.biased → j ≡ J.start (biased_year_value y) → w ≡ first_day_value r j t → (w ≤ s.biased) × (s.biased + 1 - w < 4_294_967_296)
   reads_room {s} {j} {w} (reads_at {o} v q) g i k =
       let a = read_at G.leap_at G.start y m d h e f v q in
       first_cases r j t (λ u z. omega (arith, k, z, i, f, a.adds, at_few a, at_from a, year_close a)) (λ u x z. omega (arith, k, z, i, f, a.adds, at_few a, at_from a)) (λ u x z. omega (arith, k, z, i, f, a.adds, at_few a, at_from a))
 
-  pub turned_none : {k : ℕ} → ReadsLabel b t y m d Read'.Nothing → RefusesNonGregorian r y m d k → TurnsLabel r y m d k
+  pub turned_none : {k : ℕ} → ReadsLabel b t y m d None → RefusesNonGregorian r y m d k → TurnsLabel r y m d k
   turned_none (reads_none n) (taken_away v g) = turns_gap v (month_over g)
   turned_none (reads_none n) (never_there g) = turns_none (λ v. n (subst (λ (b : Bool). ThereIn b m d) (sym e) v)) g
 
-  pub turned_gap : {s : S.Spot} → ReadsLabel b t y m d (Read'.At s) → s.biased < r → TurnsLabel r y m d 5
+  pub turned_gap : {s : S.Spot} → ReadsLabel b t y m d (Some s) → s.biased < r → TurnsLabel r y m d 5
   turned_gap (reads_at v q) g =
       let a = read_at G.leap_at G.start y m d h e f v q in
       turns_gap (there_too (biased_year_value y) m d a.there) (day_before a.there (subst (λ (n : ℕ). n < r) (sym (at_number a)) g))
 
-  pub turned_at : {s : S.Spot} {j w n : ℕ} → ReadsLabel b t y m d (Read'.At s) → r ≤ s.biased → j ≡ J.start (biased_year_value y) → w ≡ first_day_value r j t → n < 4_294_967_296
+  pub turned_at : {s : S.Spot} {j w n : ℕ} → ReadsLabel b t y m d (Some s) → r ≤ s.biased → j ≡ J.start (biased_year_value y) → w ≡ first_day_value r j t → n < 4_294_967_296
       → s.biased + 1 - month_first_value r (biased_year_value s.year) s.month ≡ n → TurnsLabel r y m d (pair (s.biased + 1 - w) n)
   turned_at {w = w} (reads_at {o} v q) g i k u z = turns_at {i = t + o - 1 + 1 - w} g (read_at G.leap_at G.start y m d h e f v q) (omega (arith, reads_room (reads_at v q) g i k)) u (ap (λ (x : ℕ). t + o - 1 + 1 - x) (sym (k ∙ ap₂ (first_day_value r) i f))) z
 

@@ -1,5 +1,5 @@
 -- What the private functions say, of days and years that are biased as naturals.
-use Rattle.std.specs.Prelude.{◌≡◌, Bool, cond, ◌⊎◌, ℤ, pos, ℕ, zero, suc, ◌+◌, ◌-◌, ◌*◌, ◌<◌, ◌≤◌, ltb, eqb}
+use Rattle.std.specs.Prelude.{◌≡◌, Bool, cond, ◌⊎◌, ℤ, pos, ℕ, zero, suc, ◌+◌, ◌-◌, ◌*◌, ◌<◌, ◌≤◌, ltb, eqb, Result, Ok, Err, Option, Some, None}
 use Rattle.days.specs.BiasedDays.{day, year}
 use Rattle.days.specs.ClosedJulian as J
 use Rattle.days.specs.ClosedGregorian as G
@@ -14,28 +14,20 @@ use Rattle.calendar.specs.declared.Style.{Style}
 use Rattle.calendar.specs.declared.Style.TheVariants as Style'
 use Rattle.calendar.specs.declared.Date.{Date}
 use Rattle.calendar.specs.declared.record.DayInYear.{DayInYear}
-use Rattle.calendar.specs.declared.record.Placed.{Placed}
-use Rattle.calendar.specs.declared.record.Placed.TheVariants as Placed'
-use Rattle.calendar.specs.declared.record.Read.{Read}
-use Rattle.calendar.specs.declared.record.Read.TheVariants as Read'
 use Rattle.calendar.specs.declared.record.Early.{Early}
 use Rattle.calendar.specs.declared.record.Early.TheVariants as Early'
-use Rattle.calendar.specs.declared.Switch.{Switch}
-use Rattle.calendar.specs.declared.Switch.TheVariants as Switch'
 use Rattle.inner.specs.declared.Spot.{Spot}
 use Rattle.inner.specs.Spots.{At, spot}
-use Rattle.calendar.specs.declared.ReformDate.{ReformDate}
-use Rattle.calendar.specs.declared.ReformDate.TheVariants as ReformDate'
 use Rattle.calendar.specs.Calendars.{definition_of, Accepted}
 use Rattle.calendar.specs.Rows.{Unless}
-use Rattle.switches.specs.declared.Found.TheVariants as Found'
 use Rattle.switches.specs.Promise.{NoneBelow, NotOver, Finds}
 use Rattle.calendar.specs.Promise.{refusal, made_up, ReformRecord}
+use Rattle.refusals.specs.declared.Refusal.{Refusal}
 
 -- the calendar is Julian below the biased day r and Gregorian from it on; or it is made up
-pub data SwitchIs (c : Calendar) : Switch → Type 0 where
-  switches_at : {r : ℕ} → Runs (definition_of c) r → SwitchIs c (Switch'.At r)
-  no_calendar : ¬ Accepted c → SwitchIs c Switch'.MadeUp
+pub data SwitchIs (c : Calendar) : Result ℕ Refusal → Type 0 where
+  switches_at : {r : ℕ} → Runs (definition_of c) r → SwitchIs c (Ok r)
+  no_calendar : ¬ Accepted c → SwitchIs c (Err made_up)
 
 -- some calendar switches on the biased day r
 abbrev pub SomeSwitch : ℕ → Type 0
@@ -89,16 +81,16 @@ record_at c z p = record { calendar = c; year = z; ordinal = p.ordinal; month = 
 -- ---- From a label
 
 -- its day in a year that starts on a biased day, and is leap or not
-pub data ReadsLabel (leap : Bool) (start y m d : ℕ) : Read → Type 0 where
-  reads_at : {o : ℕ} → ThereIn leap m d → days_before_value leap m + d ≡ o → ReadsLabel leap start y m d (Read'.At (spot (start + o - 1) y o m d))
-  reads_none : ¬ ThereIn leap m d → ReadsLabel leap start y m d Read'.Nothing
+pub data ReadsLabel (leap : Bool) (start y m d : ℕ) : Option Spot → Type 0 where
+  reads_at : {o : ℕ} → ThereIn leap m d → days_before_value leap m + d ≡ o → ReadsLabel leap start y m d (Some (spot (start + o - 1) y o m d))
+  reads_none : ¬ ThereIn leap m d → ReadsLabel leap start y m d None
 
 abbrev pub LabelAt : ℕ → ℕ → ℕ → ℕ → DayInYear → Type 0
 LabelAt r y m d p = IsPlace r y p × (p.month ≡ m) × (p.day ≡ d)
 
-abbrev pub PlacesLabel : ℕ → ℕ → ℕ → ℕ → Placed → Type 0
-PlacesLabel r y m d (Placed'.At p) = LabelAt r y m d p
-PlacesLabel r y m d (Placed'.Refused f) = Finds r y m d (Found'.Refused f)
+abbrev pub PlacesLabel : ℕ → ℕ → ℕ → ℕ → Result DayInYear Refusal → Type 0
+PlacesLabel r y m d (Ok p) = LabelAt r y m d p
+PlacesLabel r y m d (Err f) = Finds r y m d (Err f)
 
 -- no Julian day before the switch bears it, and its year does not begin from the switch on
 abbrev pub LaterLabel : ℕ → ℕ → ℕ → ℕ → Type 0
@@ -106,7 +98,7 @@ LaterLabel r y m d = NoneBelow r y m d × (r ≤ J.start (biased_year_value y) �
 
 abbrev pub PlacesEarly : ℕ → ℕ → ℕ → ℕ → Early → Type 0
 PlacesEarly r y m d (Early'.At p) = LabelAt r y m d p
-PlacesEarly r y m d (Early'.Refused f) = Finds r y m d (Found'.Refused f)
+PlacesEarly r y m d (Early'.Refused f) = Finds r y m d (Err f)
 PlacesEarly r y m d Early'.Later = LaterLabel r y m d
 
 -- ---- From a place in a year
@@ -115,9 +107,9 @@ PlacesEarly r y m d Early'.Later = LaterLabel r y m d
 abbrev pub OffSpan : ℕ → ℕ → ℕ → Type 0
 OffSpan r y o = (o ≡ 0) ⊎ (year_first r (biased_year_value y + 1) - year_first r (biased_year_value y) < o)
 
-pub data PlacesOrdinal (r y o : ℕ) : Placed → Type 0 where
-  ordinal_at_place : {p : DayInYear} → IsPlace r y p → p.ordinal ≡ o → PlacesOrdinal r y o (Placed'.At p)
-  ordinal_off : OffSpan r y o → PlacesOrdinal r y o (Placed'.Refused (refusal 6 (pos o)))
+pub data PlacesOrdinal (r y o : ℕ) : Result DayInYear Refusal → Type 0 where
+  ordinal_at_place : {p : DayInYear} → IsPlace r y p → p.ordinal ≡ o → PlacesOrdinal r y o (Ok p)
+  ordinal_off : OffSpan r y o → PlacesOrdinal r y o (Err (refusal 6 (pos o)))
 
 -- the o-th day of the year is a Gregorian day from the switch on
 pub record LaterOrdinal (r y o : ℕ) : Type 0 where
@@ -150,8 +142,8 @@ Turns r y (suc m) d = TurnsLabel r y (suc m) d
 -- ---- Of a calendar and of a date
 
 -- the date so many days before the first Gregorian one
-abbrev pub ReformDateOf : Calendar → ℕ → ReformDate → Type 0
-ReformDateOf c b = Unless (Accepted c) (ReformDate'.Refused made_up) (ReformRecord (pos b) c)
+abbrev pub ReformDateOf : Calendar → ℕ → Result (Option Date) Refusal → Type 0
+ReformDateOf c b = Unless (Accepted c) (Err made_up) (ReformRecord (pos b) c)
 
 abbrev pub style_number_value : Style → ℕ
 style_number_value Style'.Julian = 0

@@ -1,6 +1,6 @@
 -- Two results that a promise allows for one input are equal: a theorem for each promise.
 -- Assumes nothing.
-use Rattle.std.specs.Prelude.{◌≡◌, refl, Bool, ℕ, ℤ}
+use Rattle.std.specs.Prelude.{◌≡◌, refl, Bool, ℕ, ℤ, Ok, Some}
 use Rattle.std.proofs.Common.{sym, ◌∙◌, ap, subst}
 use Rattle.whole.specs.One.{whether_one}
 use Rattle.days.specs.DayByDay.{Label, label, Timeline, labels_in, Rises}
@@ -12,9 +12,6 @@ use Rattle.calendar.specs.declared.Calendar.{Calendar}
 use Rattle.calendar.specs.declared.Calendar.TheVariants as Calendar'
 use Rattle.calendar.specs.declared.Style.{Style}
 use Rattle.calendar.specs.declared.Date.{Date}
-use Rattle.calendar.specs.declared.Switch.TheVariants as Switch'
-use Rattle.calendar.specs.declared.Dated.TheVariants as Dated'
-use Rattle.calendar.specs.declared.ReformDate.TheVariants as ReformDate'
 use Rattle.calendar.specs.Calendars.{timeline, IsRecordIn, Genuine}
 use Rattle.calendar.specs.RowLaws.{One, unless_one, if_one, answers_one}
 use Rattle.calendar.specs.Promise.{outcome_is, Reforms, judged, RecordOfIn, record_of, AtJdn, GivenIn, Given, OnLabelIn, on_label, YmdIn, AtYmd, OnOrdinalIn, on_ordinal, OrdinalIn, AtOrdinal, TellsCalendar, ReformationOf, reform_day_value, ReformRecord, never_julian, never_gregorian, reform_record, LastJulian, FirstGregorian, IsGenuine, TellsDate, CountsDate, Next, ConvertsTo}
@@ -41,7 +38,7 @@ record_one {r = r} {s} p q =
     e
 
 record_of_one : (t : Timeline) (c : Calendar) (n : ℤ) → One (RecordOfIn t c n)
-record_of_one t c n a b (record_of p) (record_of q) = ap Dated'.Date (record_one p q)
+record_of_one t c n a b (record_of p) (record_of q) = ap Ok (record_one p q)
 
 -- ---- Reformations
 pub reforms_one : (r : ℤ) → One (Reforms r)
@@ -82,7 +79,7 @@ at_ordinal_one c y o = unless_one (λ a. ordinal_in_one (timeline c) c y o)
 
 -- ---- Of a calendar
 pub switch_one : (c : Calendar) → One (SwitchIs c)
-switch_one c a b (switches_at p) (switches_at q) = ap Switch'.At (runs_one p q)
+switch_one c a b (switches_at p) (switches_at q) = ap Ok (runs_one p q)
 switch_one c a b (switches_at p) (no_calendar n) = absurd (n p.accepted)
 switch_one c a b (no_calendar n) (switches_at q) = absurd (n q.accepted)
 switch_one c a b (no_calendar n) (no_calendar m) = refl
@@ -96,7 +93,7 @@ reformation_one c = unless_one (λ a. answers_one (reform_day_value c))
 reform_record_one : (before : ℤ) (c : Calendar) → One (ReformRecord before c)
 reform_record_one before Calendar'.Julian a b never_julian never_julian = refl
 reform_record_one before Calendar'.Gregorian a b never_gregorian never_gregorian = refl
-reform_record_one before (Calendar'.Reforming r) a b (reform_record p) (reform_record q) = ap ReformDate'.Date (record_one p q)
+reform_record_one before (Calendar'.Reforming r) a b (reform_record p) (reform_record q) = ap (λ (k : ℕ). Ok (Some k)) (record_one p q)
 
 pub last_julian_one : (c : Calendar) → One (LastJulian c)
 last_julian_one c = unless_one (λ a. reform_record_one _ c)

@@ -16,10 +16,8 @@ ghost use Rattle.calendar.specs.Natural.{SwitchIs, ReformDateOf, fields_of, styl
 
 use fields::Fields;
 pub use inner::{RATA_DIE_ZERO_JDN, REFORM1582_JDN, UNIX_EPOCH_JDN};
-use monthdays::DayOrdinal;
 pub use refusals::{Refusal, refusal_of};
-use switches::reformation::Judgement;
-use ways::{Kind, Neighbour};
+use ways::Kind;
 use whole::{lowered, raised, widened};
 
 mod record;
@@ -56,100 +54,45 @@ pub struct Date {
 
 // ---- Answers: each is what was asked for, or the refusal
 
-#[derive(Clone, Copy)]
-pub enum Chosen {
-    Calendar(Calendar),
-    Refused(Refusal),
-}
-
-#[derive(Clone, Copy)]
-pub enum Dated {
-    Date(Date),
-    Refused(Refusal),
-}
-
-// A number that counts from 0 or 1.
-#[derive(Clone, Copy)]
-pub enum Counted {
-    Number(u32),
-    Refused(Refusal),
-}
-
-#[derive(Clone, Copy)]
-pub enum Told {
-    Is(bool),
-    Refused(Refusal),
-}
-
-// What a calendar has that reforms, and another has not.
-#[derive(Clone, Copy)]
-pub enum ReformDay {
-    Day(i32),
-    Never,
-    Refused(Refusal),
-}
-
-#[derive(Clone, Copy)]
-pub enum ReformDate {
-    Date(Date),
-    Never,
-    Refused(Refusal),
-}
-
-// The next date of a month, or nothing yet.
-#[derive(Clone, Copy)]
-pub enum Near {
-    Date(Date),
-    Other,
-}
-
 // ---- Where a calendar switches
 
-// A calendar is Julian below a biased day and Gregorian from it on. The Julian one switches after every day that is looked at, the Gregorian
-// one before.
-#[derive(Clone, Copy)]
-pub enum Switch {
-    At(u64),
-    MadeUp,
-}
-
-pub fn switch_of(calendar: Calendar) -> Switch
+pub fn switch_of(calendar: Calendar) -> Result<u64, Refusal>
     ensures { SwitchIs calendar result }
 {
     match calendar {
-        Calendar::Julian => Switch::At(4_000_000_000_000),
-        Calendar::Gregorian => Switch::At(0),
+        Calendar::Julian => Ok(4_000_000_000_000),
+        Calendar::Gregorian => Ok(0),
         Calendar::Reforming(r) => match switches::reformation::judge(r) {
-            Judgement::Accepted(day) => Switch::At(day),
-            Judgement::Refused(_) => Switch::MadeUp,
+            Ok(day) => Ok(day),
+            Err(_) => Err(_),
         },
     }
 }
 
 // ---- Refusals
 
-fn made_up() -> Dated
+fn made_up() -> Result<Date, Refusal>
     ensures { result ≡ refused 16 (pos 0) }
 {
-    Dated::Refused(refusal_of(16, 0))
+    Err(refusal_of(16, 0))
 }
 
-fn refused_count(number: u32, value: u32) -> Dated
+fn refused_count(number: u32, value: u32) -> Result<Date, Refusal>
     ensures { result ≡ refused number (pos value) }
 {
-    Dated::Refused(refusals::refusal_with(number, value))
+    Err(refusals::refusal_with(number, value))
 }
 
-fn refused_reformation(number: u32, r: i32) -> Chosen
+fn refused_reformation(number: u32, r: i32) -> Result<Calendar, Refusal>
     ensures { result ≡ refused_reformation_value number r }
 {
-    Chosen::Refused(refusal_of(number, widened(r)))
+    Err(refusal_of(number, widened(r)))
 }
 
-fn refused_year(year: i32) -> Dated
+fn refused_year(year: i32) -> Result<Date, Refusal>
     ensures { result ≡ refused 7 year }
 {
-    Dated::Refused(refusals::outside_32_bits(year))
+    Err(refusals::outside_32_bits(year))
 }
 
 // ---- Calendars
@@ -163,106 +106,106 @@ impl Calendar {
     pub const REFORM1582: Calendar = Calendar::Reforming(REFORM1582_JDN);
 
     // The calendar that is reforming at day r.
-    pub fn reforming(r: i32) -> Chosen
+    pub fn reforming(r: i32) -> Result<Calendar, Refusal>
         ensures { Reforms r result }
     {
         match switches::reformation::judge(r) {
-            Judgement::Accepted(_) => Chosen::Calendar(Calendar::Reforming(r)),
-            Judgement::Refused(number) => refused_reformation(number, r),
+            Ok(_) => Ok(Calendar::Reforming(r)),
+            Err(number) => refused_reformation(number, r),
         }
     }
 
     // The date of a day number.
-    pub fn at_jdn(self, jdn: i32) -> Dated
+    pub fn at_jdn(self, jdn: i32) -> Result<Date, Refusal>
         ensures { AtJdn self jdn result }
     {
         let calendar = self;
         match switch_of(calendar) {
-            Switch::MadeUp => made_up(),
-            Switch::At(switch) => Dated::Date(record::on_day(calendar, switch, jdn)),
+            Err(_) => made_up(),
+            Ok(switch) => Ok(record::on_day(calendar, switch, jdn)),
         }
     }
 
     // The date of a year, a month and a day of the month.
-    pub fn at_ymd(self, year: i32, month: u32, day: u32) -> Dated
+    pub fn at_ymd(self, year: i32, month: u32, day: u32) -> Result<Date, Refusal>
         ensures { AtYmd self year month day result }
     {
         let calendar = self;
         match switch_of(calendar) {
-            Switch::MadeUp => made_up(),
-            Switch::At(switch) => record::on_label(calendar, switch, year, month, day),
+            Err(_) => made_up(),
+            Ok(switch) => record::on_label(calendar, switch, year, month, day),
         }
     }
 
     // The date of a year and a place in it, from 1.
-    pub fn at_ordinal_date(self, year: i32, ordinal: u32) -> Dated
+    pub fn at_ordinal_date(self, year: i32, ordinal: u32) -> Result<Date, Refusal>
         ensures { AtOrdinal self year ordinal result }
     {
         let calendar = self;
         match switch_of(calendar) {
-            Switch::MadeUp => made_up(),
-            Switch::At(switch) => record::on_ordinal(calendar, switch, year, ordinal),
+            Err(_) => made_up(),
+            Ok(switch) => record::on_ordinal(calendar, switch, year, ordinal),
         }
     }
 
-    pub fn is_reforming(self) -> Told
+    pub fn is_reforming(self) -> Result<bool, Refusal>
         ensures { TellsCalendar self (is_reforming_value self) result }
     {
         let calendar = self;
         match switch_of(calendar) {
-            Switch::MadeUp => Told::Refused(refusal_of(16, 0)),
-            Switch::At(_) => Told::Is(reforms(calendar)),
+            Err(_) => Err(refusal_of(16, 0)),
+            Ok(_) => Ok(reforms(calendar)),
         }
     }
 
     // A calendar is proleptic that has one reckoning throughout.
-    pub fn is_proleptic(self) -> Told
+    pub fn is_proleptic(self) -> Result<bool, Refusal>
         ensures { TellsCalendar self (not (is_reforming_value self)) result }
     {
         let calendar = self;
         match switch_of(calendar) {
-            Switch::MadeUp => Told::Refused(refusal_of(16, 0)),
-            Switch::At(_) => Told::Is(!reforms(calendar)),
+            Err(_) => Err(refusal_of(16, 0)),
+            Ok(_) => Ok(!reforms(calendar)),
         }
     }
 
     // The first day with a Gregorian date.
-    pub fn reformation(self) -> ReformDay
+    pub fn reformation(self) -> Result<Option<i32>, Refusal>
         ensures { ReformationOf self result }
     {
         let calendar = self;
         match switch_of(calendar) {
-            Switch::MadeUp => ReformDay::Refused(refusal_of(16, 0)),
-            Switch::At(_) => reform_day(calendar),
+            Err(_) => Err(refusal_of(16, 0)),
+            Ok(_) => reform_day(calendar),
         }
     }
 
-    pub fn last_julian_date(self) -> ReformDate
+    pub fn last_julian_date(self) -> Result<Option<Date>, Refusal>
         ensures { LastJulian self result }
     {
         self.reform_date(1)
     }
 
-    pub fn first_gregorian_date(self) -> ReformDate
+    pub fn first_gregorian_date(self) -> Result<Option<Date>, Refusal>
         ensures { FirstGregorian self result }
     {
         self.reform_date(0)
     }
 
     // The date so many days before the first Gregorian one.
-    fn reform_date(self, before: u32) -> ReformDate
+    fn reform_date(self, before: u32) -> Result<Option<Date>, Refusal>
         requires { before ≤ 1 }
         ensures { ReformDateOf self before result }
     {
         let calendar = self;
         match switch_of(calendar) {
-            Switch::MadeUp => ReformDate::Refused(refusal_of(16, 0)),
-            Switch::At(switch) => match calendar {
-                Calendar::Julian => ReformDate::Never,
-                Calendar::Gregorian => ReformDate::Never,
+            Err(_) => Err(refusal_of(16, 0)),
+            Ok(switch) => match calendar {
+                Calendar::Julian => Ok(None),
+                Calendar::Gregorian => Ok(None),
                 Calendar::Reforming(r) => {
                     let jdn = lowered(raised(r) - before);
-                    ReformDate::Date(record::on_day(calendar, switch, jdn))
+                    Ok(Some(record::on_day(calendar, switch, jdn)))
                 }
             },
         }
@@ -279,13 +222,13 @@ fn reforms(calendar: Calendar) -> bool
     }
 }
 
-fn reform_day(calendar: Calendar) -> ReformDay
+fn reform_day(calendar: Calendar) -> Result<Option<i32>, Refusal>
     ensures { result ≡ reform_day_value calendar }
 {
     match calendar {
-        Calendar::Julian => ReformDay::Never,
-        Calendar::Gregorian => ReformDay::Never,
-        Calendar::Reforming(r) => ReformDay::Day(r),
+        Calendar::Julian => Ok(None),
+        Calendar::Gregorian => Ok(None),
+        Calendar::Reforming(r) => Ok(Some(r)),
     }
 }
 
@@ -298,47 +241,47 @@ impl Date {
     {
         let calendar = self.calendar;
         match calendar.at_jdn(self.jdn) {
-            Dated::Refused(_) => false,
-            Dated::Date(given) => fields::same_fields(fields_of(self), fields_of(given)),
+            Err(_) => false,
+            Ok(given) => fields::same_fields(fields_of(self), fields_of(given)),
         }
     }
 
-    pub fn weekday(self) -> Counted
+    pub fn weekday(self) -> Result<u32, Refusal>
         ensures { CountsDate self (weekday self.jdn) result }
     {
         if self.is_genuine() {
-            return Counted::Number(weekday::for_jdn(self.jdn));
+            return Ok(weekday::for_jdn(self.jdn));
         }
-        Counted::Refused(refusal_of(16, 0))
+        Err(refusal_of(16, 0))
     }
 
     // The ordinal and the day ordinal, counted from 0.
-    pub fn ordinal0(self) -> Counted
+    pub fn ordinal0(self) -> Result<u32, Refusal>
         ensures { CountsDate self (self.ordinal - 1) result }
     {
         from_0(self, self.ordinal)
     }
 
-    pub fn day_ordinal0(self) -> Counted
+    pub fn day_ordinal0(self) -> Result<u32, Refusal>
         ensures { CountsDate self (self.day_ordinal - 1) result }
     {
         from_0(self, self.day_ordinal)
     }
 
-    pub fn is_julian(self) -> Told
+    pub fn is_julian(self) -> Result<bool, Refusal>
         ensures { TellsDate self (style_is_value JulianStyle self) result }
     {
         has_style(self, Style::Julian)
     }
 
-    pub fn is_gregorian(self) -> Told
+    pub fn is_gregorian(self) -> Result<bool, Refusal>
         ensures { TellsDate self (style_is_value GregorianStyle self) result }
     {
         has_style(self, Style::Gregorian)
     }
 
     // The date of the same day in another calendar.
-    pub fn convert_to(self, calendar: Calendar) -> Dated
+    pub fn convert_to(self, calendar: Calendar) -> Result<Date, Refusal>
         ensures { ConvertsTo self calendar result }
     {
         if self.is_genuine() {
@@ -348,13 +291,13 @@ impl Date {
     }
 
     // The date of the next day, and of the day before.
-    pub fn succ(self) -> Dated
+    pub fn succ(self) -> Result<Date, Refusal>
         ensures { Next self (suc_ℤ self.jdn) result }
     {
         ahead(self, Kind::Later)
     }
 
-    pub fn pred(self) -> Dated
+    pub fn pred(self) -> Result<Date, Refusal>
         ensures { Next self (pred_ℤ self.jdn) result }
     {
         ahead(self, Kind::Earlier)
@@ -365,7 +308,7 @@ impl Date {
 
 // The date of the next day, or of the day before, where it is found from the date alone: the date is genuine, its year is wholly in one
 // reckoning, and its day is none with which a month can end or begin.
-pub fn next_in_month(date: Date, later: bool) -> Near
+pub fn next_in_month(date: Date, later: bool) -> Option<Date>
     ensures { NextInMonth later date result }
 {
     let calendar = date.calendar;
@@ -383,10 +326,10 @@ pub fn next_in_month(date: Date, later: bool) -> Near
                 date.day_ordinal,
                 date.jdn,
             ) {
-                return Near::Date(moved(date, true));
+                return Some(moved(date, true));
             }
         }
-        return Near::Other;
+        return None;
     }
     if ways::stays(false, date.day, date.jdn) {
         if is_usual(
@@ -399,10 +342,10 @@ pub fn next_in_month(date: Date, later: bool) -> Near
             date.day_ordinal,
             date.jdn,
         ) {
-            return Near::Date(moved(date, false));
+            return Some(moved(date, false));
         }
     }
-    Near::Other
+    None
 }
 
 // Whether a date is genuine and its year wholly in one reckoning. Its fields come one by one: a struct would come through memory.
@@ -435,13 +378,13 @@ fn is_usual_date(date: Date) -> bool
 {
     let calendar = date.calendar;
     match switch_of(calendar) {
-        Switch::MadeUp => false,
-        Switch::At(switch) => {
+        Err(_) => false,
+        Ok(switch) => {
             let at = switches::year_in(switch, raised(date.year));
             if at.whole {
                 return match monthdays::md2ordinal(at.leap, date.month, date.day) {
-                    DayOrdinal::Nothing => false,
-                    DayOrdinal::At(ordinal) => is_on(
+                    None => false,
+                    Some(ordinal) => is_on(
                         date,
                         switch,
                         at.first + ordinal as u64,
@@ -502,36 +445,36 @@ fn one_on(later: bool, n: u32) -> u32
 }
 
 // The date of the day that lies ahead of a date on a way: in its month, or by its day number.
-fn ahead(date: Date, way: Kind) -> Dated
+fn ahead(date: Date, way: Kind) -> Result<Date, Refusal>
     ensures { Next date (toward way date.jdn) result }
 {
     match next_in_month(date, ways::goes_later(way)) {
-        Near::Date(next) => Dated::Date(next),
-        Near::Other => beside(date, way),
+        Some(next) => Ok(next),
+        None => beside(date, way),
     }
 }
 
-fn beside(date: Date, way: Kind) -> Dated
+fn beside(date: Date, way: Kind) -> Result<Date, Refusal>
     ensures { Next date (toward way date.jdn) result }
 {
     if date.is_genuine() {
         let calendar = date.calendar;
         return match ways::day_ahead(way, date.jdn) {
-            Neighbour::Nowhere => refused_count(15, 0),
-            Neighbour::Day(jdn) => calendar.at_jdn(jdn),
+            None => refused_count(15, 0),
+            Some(jdn) => calendar.at_jdn(jdn),
         };
     }
     made_up()
 }
 
 // A number of a record, which has to be genuine, counted from 0 in place of 1.
-fn from_0(date: Date, number: u32) -> Counted
+fn from_0(date: Date, number: u32) -> Result<u32, Refusal>
     ensures { CountsDate date (number - 1) result }
 {
     if date.is_genuine() {
-        return Counted::Number(one_less(number));
+        return Ok(one_less(number));
     }
-    Counted::Refused(refusal_of(16, 0))
+    Err(refusal_of(16, 0))
 }
 
 fn one_less(n: u32) -> u32
@@ -581,12 +524,12 @@ fn style_at(switch: u64, biased: u64) -> Style
 }
 
 // Whether a record, which has to be genuine, is of this style.
-fn has_style(date: Date, style: Style) -> Told
+fn has_style(date: Date, style: Style) -> Result<bool, Refusal>
     ensures { TellsDate date (is_of_style date style) result }
 {
     if date.is_genuine() {
         let own = date.style;
-        return Told::Is(style_number(own) == style_number(style));
+        return Ok(style_number(own) == style_number(style));
     }
-    Told::Refused(refusal_of(16, 0))
+    Err(refusal_of(16, 0))
 }

@@ -9,10 +9,10 @@ ghost use Rattle.calendar.specs.Calendars.{definition_of, IsRecord};
 ghost use Rattle.calendar.specs.Promise.{Given, AtYmd, AtOrdinal};
 ghost use Rattle.calendar.specs.Natural.{SpotAt, OnSpot, plain_record_value, plain_place_value, record_at, ReadsLabel, SomeSwitch, PlacesLabel, PlacesEarly, LaterLabel, PlacesOrdinal, LaterOrdinal, Turns, TurnsLabel, TurnsOrdinal};
 
-use crate::{Calendar, Date, Dated, Style};
-use inner::{DayNumber, Spot};
-use monthdays::DayOrdinal;
+use crate::{Calendar, Date, Style};
+use inner::Spot;
 use refusals::Refusal;
+use inner::NoNumber;
 
 // ---- From a day to its record
 
@@ -120,8 +120,8 @@ fn julian_month(year: u32, month: u32) -> u64
     ensures { result ≡ julian_month_value (biased_year_value year) month }
 {
     match monthdays::md2ordinal(inner::is_julian_leap(year), month, 1) {
-        DayOrdinal::At(ordinal) => inner::julian_start(year) + ordinal as u64 - 1,
-        DayOrdinal::Nothing => 0,
+        Some(ordinal) => inner::julian_start(year) + ordinal as u64 - 1,
+        None => 0,
     }
 }
 
@@ -141,20 +141,14 @@ struct DayInYear {
     style: Style,
 }
 
-#[derive(Clone, Copy)]
-enum Placed {
-    At(DayInYear),
-    Refused(Refusal),
-}
-
 // The record of a day, or that 32 bits do not hold its number.
-fn given(calendar: Calendar, year: i32, p: DayInYear) -> Dated
+fn given(calendar: Calendar, year: i32, p: DayInYear) -> Result<Date, Refusal>
     requires { (1 ≤ p.past) × IsRecord calendar (day (p.past - 1)) (record_at calendar year p) }
     ensures { Given calendar year (day (p.past - 1)) result }
 {
     let style = p.style;
     match inner::day_number(p.past - 1) {
-        DayNumber::Day(jdn) => Dated::Date(Date {
+        Ok(jdn) => Ok(Date {
             calendar: calendar,
             style: style,
             year: year,
@@ -164,8 +158,8 @@ fn given(calendar: Calendar, year: i32, p: DayInYear) -> Dated
             day_ordinal: p.day_ordinal,
             jdn: jdn,
         }),
-        DayNumber::Nothing => crate::refused_year(year),
-        DayNumber::Outside32 => crate::refused_year(year),
+        Err(NoNumber::Nothing) => crate::refused_year(year),
+        Err(NoNumber::Outside32) => crate::refused_year(year),
     }
 }
 
@@ -184,20 +178,14 @@ fn plain_place(style: Style, s: Spot) -> DayInYear
     }
 }
 
-#[derive(Clone, Copy)]
-enum Read {
-    At(Spot),
-    Nothing,
-}
-
 // The day of a label in a reckoning, by the first day of the year and whether that is leap.
-fn reading(leap: bool, start: u64, year: u32, month: u32, day: u32) -> Read
+fn reading(leap: bool, start: u64, year: u32, month: u32, day: u32) -> Option<Spot>
     requires { start < 2_000_000_000_000 }
     ensures { ReadsLabel leap start year month day result }
 {
     match monthdays::md2ordinal(leap, month, day) {
-        DayOrdinal::Nothing => Read::Nothing,
-        DayOrdinal::At(ordinal) => Read::At(Spot {
+        None => None,
+        Some(ordinal) => Some(Spot {
             biased: start + ordinal as u64 - 1,
             year: year,
             ordinal: ordinal,
@@ -209,26 +197,26 @@ fn reading(leap: bool, start: u64, year: u32, month: u32, day: u32) -> Read
 
 // ---- From a label to its day
 
-pub fn on_label(calendar: Calendar, switch: u64, year: i32, month: u32, day: u32) -> Dated
+pub fn on_label(calendar: Calendar, switch: u64, year: i32, month: u32, day: u32) -> Result<Date, Refusal>
     requires { Runs (definition_of calendar) switch }
     ensures { AtYmd calendar year month day result }
 {
     if monthdays::is_month(month) {
         return match label_place(switch, whole::raised(year), month, day) {
-            Placed::At(p) => given(calendar, year, p),
-            Placed::Refused(refusal) => Dated::Refused(refusal),
+            Ok(p) => given(calendar, year, p),
+            Err(refusal) => Err(refusal),
         };
     }
     crate::refused_count(3, month)
 }
 
-fn label_place(switch: u64, year: u32, month: u32, day: u32) -> Placed
+fn label_place(switch: u64, year: u32, month: u32, day: u32) -> Result<DayInYear, Refusal>
     requires { SomeSwitch switch × Month month }
     ensures { PlacesLabel switch year month day result }
 {
     match plain_label(switch, year, month, day) {
-        Early::At(p) => Placed::At(p),
-        Early::Refused(refusal) => Placed::Refused(refusal),
+        Early::At(p) => Ok(p),
+        Early::Refused(refusal) => Err(refusal),
         Early::Later => later_label(switch, year, month, day),
     }
 }
@@ -249,13 +237,13 @@ fn plain_label(switch: u64, year: u32, month: u32, day: u32) -> Early
     let old = inner::julian_start(year);
     if old < switch {
         return match reading(inner::is_julian_leap(year), old, year, month, day) {
-            Read::Nothing => {
+            None => {
                 if old + 366 < switch {
                     return Early::Refused(refusals::refusal_with(4, day));
                 }
                 Early::Later
             }
-            Read::At(s) => {
+            Some(s) => {
                 if s.biased < switch {
                     return Early::At(plain_place(Style::Julian, s));
                 }
@@ -266,24 +254,24 @@ fn plain_label(switch: u64, year: u32, month: u32, day: u32) -> Early
     let new = inner::gregorian_start(year);
     if switch <= new {
         return match reading(inner::is_gregorian_leap(year), new, year, month, day) {
-            Read::Nothing => Early::Refused(refusals::refusal_with(4, day)),
-            Read::At(s) => Early::At(plain_place(Style::Gregorian, s)),
+            None => Early::Refused(refusals::refusal_with(4, day)),
+            Some(s) => Early::At(plain_place(Style::Gregorian, s)),
         };
     }
     Early::Later
 }
 
 // The label from the switch on; its year begins on its first Julian day or on the switch.
-fn later_label(switch: u64, year: u32, month: u32, day: u32) -> Placed
+fn later_label(switch: u64, year: u32, month: u32, day: u32) -> Result<DayInYear, Refusal>
     requires { Month month × LaterLabel switch year month day }
     ensures { PlacesLabel switch year month day result }
 {
     let t = turning(switch, year, month, day);
     if t < PAIR {
-        return Placed::Refused(refusals::refusal_with(t as u32, day));
+        return Err(refusals::refusal_with(t as u32, day));
     }
     let first = earlier(inner::julian_start(year), switch);
-    Placed::At(DayInYear {
+    Ok(DayInYear {
         past: first + t / PAIR,
         ordinal: (t / PAIR) as u32,
         month: month,
@@ -304,44 +292,44 @@ fn earlier(a: u64, b: u64) -> u64
 
 // ---- From a place in a year to its day
 
-pub fn on_ordinal(calendar: Calendar, switch: u64, year: i32, ordinal: u32) -> Dated
+pub fn on_ordinal(calendar: Calendar, switch: u64, year: i32, ordinal: u32) -> Result<Date, Refusal>
     requires { Runs (definition_of calendar) switch }
     ensures { AtOrdinal calendar year ordinal result }
 {
     match ordinal_place(switch, whole::raised(year), ordinal) {
-        Placed::At(p) => given(calendar, year, p),
-        Placed::Refused(refusal) => Dated::Refused(refusal),
+        Ok(p) => given(calendar, year, p),
+        Err(refusal) => Err(refusal),
     }
 }
 
 // A year that is wholly in one reckoning comes first, then the Julian days of the year of a switch.
-fn ordinal_place(switch: u64, year: u32, ordinal: u32) -> Placed
+fn ordinal_place(switch: u64, year: u32, ordinal: u32) -> Result<DayInYear, Refusal>
     requires { SomeSwitch switch }
     ensures { PlacesOrdinal switch year ordinal result }
 {
     if ordinal < 1 {
-        return Placed::Refused(refusals::refusal_with(6, ordinal));
+        return Err(refusals::refusal_with(6, ordinal));
     }
     let at = switches::year_in(switch, year);
     if at.whole {
         if inner::days_in_year(at.leap) < ordinal {
-            return Placed::Refused(refusals::refusal_with(6, ordinal));
+            return Err(refusals::refusal_with(6, ordinal));
         }
         let biased = at.first + ordinal as u64 - 1;
         let s = spot_at(biased, year, ordinal, at.leap);
-        return Placed::At(plain_place(crate::style_at(switch, biased), s));
+        return Ok(plain_place(crate::style_at(switch, biased), s));
     }
     let span = switches::year_span(switch, year);
     let past = span.first + ordinal as u64;
     if span.past < past {
-        return Placed::Refused(refusals::refusal_with(6, ordinal));
+        return Err(refusals::refusal_with(6, ordinal));
     }
     if past <= switch {
         let s = spot_at(past - 1, year, ordinal, inner::is_julian_leap(year));
-        return Placed::At(plain_place(Style::Julian, s));
+        return Ok(plain_place(Style::Julian, s));
     }
     let t = turning(switch, year, 0, ordinal);
-    Placed::At(DayInYear {
+    Ok(DayInYear {
         past: past,
         ordinal: ordinal,
         month: (t / PAIR / 32) as u32,
@@ -374,8 +362,8 @@ fn turned_label(switch: u64, year: u32, month: u32, day: u32) -> u64
 {
     let start = inner::gregorian_start(year);
     match reading(inner::is_gregorian_leap(year), start, year, month, day) {
-        Read::Nothing => switches::non_gregorian_refusal(switch, year, month, day) as u64,
-        Read::At(s) => {
+        None => switches::non_gregorian_refusal(switch, year, month, day) as u64,
+        Some(s) => {
             if s.biased < switch {
                 return 5;
             }

@@ -1,6 +1,6 @@
 -- A line and a file mean one thing, and each promise allows one result, whatever the memory holds.
 -- Assumes nothing.
-use Rattle.std.specs.Prelude.{ℕ, ◌+◌, ◌^◌, ◌≡◌, refl, List, [], ◌∷◌, ◌++◌, length, ℤ, pos}
+use Rattle.std.specs.Prelude.{ℕ, ◌+◌, ◌^◌, ◌≡◌, refl, List, [], ◌∷◌, ◌++◌, length, ℤ, pos, Err, Some, None}
 use Rattle.std.proofs.Common.{sym, ◌∙◌, ap, ap₂, subst, append_assoc, append-nil, inl, inr, arith}
 use Rattle.days.specs.DayByDay.{Is32Bit}
 use Rattle.days.proofs.ReformationTable.{judged_one}
@@ -17,10 +17,8 @@ use Rattle.nametable.specs.Hash.{bucket_of_value}
 use Rattle.nametable.specs.Promise.{Memory, memory, entered, linked}
 use Rattle.nametable.specs.Houses.{House, house}
 use Rattle.nametable.specs.One.{finds_one}
-use Rattle.nametable.specs.declared.Found.{Found}
 use Rattle.houseline.specs.Laws.{fits_leaves}
 use Rattle.houseline.specs.One.{form_one, leaves_same}
-use Rattle.catalogue.specs.declared.Added.{Added}
 use Rattle.catalogue.specs.Catalogue as C
 use Rattle.catalogue.specs.Catalogue.{LineMeaning, holds, judged_is, OfReformation, of_reformation, OfName, OfForm, leaves, of_form, OfLine, LineMeans, Hold, Meaning, catalogue, refused_by, Means, all_hold, first_refused}
 use Rattle.catalogue.specs.Promise as R
@@ -91,20 +89,20 @@ names_in_one m s a b (R.built_in (of_row x)) (held n f c) = absurd (n (_, x))
 names_in_one m s a b (R.built_in (of_row x)) (R.unknown n f) = absurd (n (_, x))
 names_in_one m s a b (held n f c) (R.built_in (of_row x)) = absurd (n (_, x))
 names_in_one m s a b (held n {z} f c) (held o {z = y} g d) =
-    let e : Found.Number z ≡ Found.Number y = finds_one f g in
+    let e : Some z ≡ Some y = finds_one f g in
     let i : z ≡ y = cc in
     house_calendar_one z a b c (subst (λ (x : ℤ). HouseCalendar x b) (sym i) d)
-names_in_one m s a b (held n {z} f c) (R.unknown o g) = let e : Found.Number z ≡ Found.Nowhere = finds_one f g in let z : ◌≡◌ {A = ℕ} 0 1 = cc in absurd (never z)
+names_in_one m s a b (held n {z} f c) (R.unknown o g) = let e : Some z ≡ None = finds_one f g in let z : ◌≡◌ {A = ℕ} 0 1 = cc in absurd (never z)
 names_in_one m s a b (R.unknown n f) (R.built_in (of_row x)) = absurd (n (_, x))
-names_in_one m s a b (R.unknown n f) (held o {z} g d) = let e : Found.Number z ≡ Found.Nowhere = finds_one g f in let z : ◌≡◌ {A = ℕ} 0 1 = cc in absurd (never z)
+names_in_one m s a b (R.unknown n f) (held o {z} g d) = let e : Some z ≡ None = finds_one g f in let z : ◌≡◌ {A = ℕ} 0 1 = cc in absurd (never z)
 names_in_one m s a b (R.unknown n f) (R.unknown o g) = refl
 
 taken_apart : (m : Memory) (s : List ℕ) → TakenIn m s → FreeIn m s → ⊥
 taken_apart m s (inl k) (n, f) = n k
-taken_apart m s (inr (z, g)) (n, f) = let e : Found.Number z ≡ Found.Nowhere = finds_one g f in let z : ◌≡◌ {A = ℕ} 0 1 = cc in never z
+taken_apart m s (inr (z, g)) (n, f) = let e : Some z ≡ None = finds_one g f in let z : ◌≡◌ {A = ℕ} 0 1 = cc in never z
 
-result_one : {m : Memory} {n : ℕ} {e d : LineMeaning} {m₁ m₂ : Memory} {a b : Added} → e ≡ d → Result m n e m₁ a → Result m n d m₂ b → (m₁ ≡ m₂) × (a ≡ b)
-result_one i (left_as {f = f}) (left_as {f = g}) = let j : f ≡ g = cc in (refl, ap Added.Refused j)
+result_one : {m : Memory} {n : ℕ} {e d : LineMeaning} {m₁ m₂ : Memory} {a b : Result ℕ Refusal} → e ≡ d → Result m n e m₁ a → Result m n d m₂ b → (m₁ ≡ m₂) × (a ≡ b)
+result_one i (left_as {f = f}) (left_as {f = g}) = let j : f ≡ g = cc in (refl, ap Err j)
 result_one i left_as (added d u) = let z : ◌≡◌ {A = ℕ} 0 1 = cc in absurd (never z)
 result_one i (added d u) left_as = let z : ◌≡◌ {A = ℕ} 0 1 = cc in absurd (never z)
 result_one {m} {n} i (added {s} {z} d u) (added {s = t} {z = y} c v) =
@@ -114,7 +112,7 @@ result_one {m} {n} i (added {s} {z} d u) (added {s = t} {z = y} c v) =
     let o : d ≡ c = unbias_injective (2 ^ 31) d c (u ∙ k ∙ sym v) in
     (ap₂ (λ (x : List ℕ) (w : ℕ). memory (entered m.names n x) (linked m.links n (bucket_of_value x) w)) j o, refl)
 
-pub adds_one : {m : Memory} {n : ℕ} {l : List ℕ} {m₁ m₂ : Memory} {a b : Added} → Adds m n l m₁ a → Adds m n l m₂ b → (m₁ ≡ m₂) × (a ≡ b)
+pub adds_one : {m : Memory} {n : ℕ} {l : List ℕ} {m₁ m₂ : Memory} {a b : Result ℕ Refusal} → Adds m n l m₁ a → Adds m n l m₂ b → (m₁ ≡ m₂) × (a ≡ b)
 adds_one (made_up h) (made_up k) = (refl, refl)
 adds_one (made_up h) (adds k o r) = absurd (omega arith)
 adds_one (adds h o r) (made_up k) = absurd (omega arith)

@@ -3,7 +3,7 @@
 -- shown of accepted calendars holds of it; no two of its names are equal (`catalogue_distinct`), and none is built in (`catalogue_apart`). A name is
 -- looked up as the catalogue says (`named_with`).
 -- Assumes nothing.
-use Rattle.std.specs.Prelude.{ℕ, zero, suc, ◌+◌, ◌≤◌, ◌<◌, ◌≡◌, refl, List, [], ◌∷◌, ◌++◌, length, ℤ, pos}
+use Rattle.std.specs.Prelude.{ℕ, zero, suc, ◌+◌, ◌≤◌, ◌<◌, ◌≡◌, refl, List, [], ◌∷◌, ◌++◌, length, ℤ, pos, Ok, Err, Option, Some, None}
 use Rattle.std.proofs.Common.{sym, ◌∙◌, ap, subst, append_assoc, append-nil, inl, inr, ⊎_elim, arith, not-suc-le-zero, length-append}
 use Rattle.std.proofs.Math.ListN.{get_or-append}
 use Rattle.std.proofs.Math.Seq.{get_or-append_seam}
@@ -16,8 +16,6 @@ use Rattle.calendar.specs.Rows.{refuses, passes}
 use Rattle.calendar.specs.RowLaws.{One}
 use Rattle.calendar.specs.declared.Calendar.{Calendar}
 use Rattle.calendar.specs.declared.Calendar.TheVariants.{Reforming}
-use Rattle.calendar.specs.declared.Chosen.{Chosen}
-use Rattle.calendar.specs.declared.Chosen.TheVariants as Chosen'
 use Rattle.ncal.specs.Promise.{Known, InTable, of_row}
 use Rattle.ncal.specs.Theorems.{table_accepted, named_row, known_or_not}
 use Rattle.textlines.specs.Lines.{Lines}
@@ -29,11 +27,9 @@ use Rattle.nametable.specs.Promise.{Memory, memory, entered, linked}
 use Rattle.nametable.specs.Houses.{House, house, name_at, line_at}
 use Rattle.nametable.specs.Holds.{Holds, Has, has, has_not}
 use Rattle.nametable.specs.Theorems.{finds_has, enter_holds}
-use Rattle.nametable.specs.declared.Found.{Found}
 use Rattle.houseline.specs.Form.{Form, form, Name}
 use Rattle.houseline.specs.Theorems.{Decided, form_or_not}
 use Rattle.houseline.specs.Laws.{fits_or_leaves}
-use Rattle.catalogue.specs.declared.Added.{Added}
 use Rattle.catalogue.specs.Catalogue as C
 use Rattle.catalogue.specs.Catalogue.{LineMeaning, holds, OfReformation, of_reformation, OfName, OfForm, leaves, of_form, OfLine, Named, Taken, LineMeans, Hold, Meaning, catalogue, refused_by, Means, all_hold, first_refused, NamesWith, of_house}
 use Rattle.catalogue.specs.Promise as R
@@ -83,11 +79,11 @@ line_good {T} {F} {n} {l} {h} o = line_good' T F n l h refl o
 -- ---- taken and free in the memory, and in the list that it holds
 
 module _ {m : Memory} {hs : List House} (g : Holds m hs) where
-  has_named : {s : List ℕ} {a : Found} {z : ℤ} → a ≡ Found.Number z → Has hs s a → Named hs s
+  has_named : {s : List ℕ} {a : Option ℤ} {z : ℤ} → a ≡ Some z → Has hs s a → Named hs s
   has_named e (has k h i) = (k, h, i)
   has_named e (has_not o) = let z : ◌≡◌ {A = ℕ} 0 1 = cc in absurd (never z)
 
-  not_named : {s : List ℕ} {a : Found} → a ≡ Found.Nowhere → Has hs s a → ¬ Named hs s
+  not_named : {s : List ℕ} {a : Option ℤ} → a ≡ None → Has hs s a → ¬ Named hs s
   not_named e (has k h i) = let z : ◌≡◌ {A = ℕ} 0 1 = cc in absurd (never z)
   not_named e (has_not o) = λ (k, h, i). o k h i
 
@@ -115,7 +111,7 @@ module _ {m : Memory} {hs : List House} (g : Holds m hs) {l : List ℕ} where
   lined : {e : LineMeaning} → OfLine (TakenIn m) (FreeIn m) (length hs + 1) l e → LineMeans hs l e
   lined = line_map (taken_in g) (free_in g)
 
-  result_adds : {n k : ℕ} {e : LineMeaning} {m' : Memory} {a : Added} → n ≡ length hs → a ≡ Added.Lines k → OfLine (TakenIn m) (FreeIn m) (n + 1) l e → Result m n e m' a
+  result_adds : {n k : ℕ} {e : LineMeaning} {m' : Memory} {a : Result ℕ Refusal} → n ≡ length hs → a ≡ Ok k → OfLine (TakenIn m) (FreeIn m) (n + 1) l e → Result m n e m' a
       → (h : House) × LineMeans hs l (holds h) × Holds m' (hs ++ (h ∷ [])) × (k ≡ length (hs ++ (h ∷ [])))
   result_adds i j o left_as = let z : ◌≡◌ {A = ℕ} 0 1 = cc in absurd (never z)
   result_adds {n} {k} i j o (added {s} {z} d u) =
@@ -128,28 +124,28 @@ module _ {m : Memory} {hs : List House} (g : Holds m hs) {l : List ℕ} where
         omega (arith, length-append hs (house s z ∷ [])),
       )
 
-  adds_holds' : {n k : ℕ} {m' : Memory} {a : Added} → n ≡ length hs → a ≡ Added.Lines k → Adds m n l m' a
+  adds_holds' : {n k : ℕ} {m' : Memory} {a : Result ℕ Refusal} → n ≡ length hs → a ≡ Ok k → Adds m n l m' a
       → (h : House) × LineMeans hs l (holds h) × Holds m' (hs ++ (h ∷ [])) × (k ≡ length (hs ++ (h ∷ [])))
   adds_holds' i j (made_up h) = let z : ◌≡◌ {A = ℕ} 0 1 = cc in absurd (never z)
   adds_holds' i j (adds h o r) = result_adds i j o r
 
   -- a line that was added holds a calendar, and the memory holds it too
-  pub adds_holds : {n k : ℕ} {m' : Memory} → n ≡ length hs → Adds m n l m' (Added.Lines k)
+  pub adds_holds : {n k : ℕ} {m' : Memory} → n ≡ length hs → Adds m n l m' (Ok k)
       → (h : House) × LineMeans hs l (holds h) × Holds m' (hs ++ (h ∷ [])) × (k ≡ length (hs ++ (h ∷ [])))
   adds_holds i w = adds_holds' i refl w
 
-  result_refused : {n : ℕ} {e : LineMeaning} {m' : Memory} {a : Added} {f : Refusal} → n ≡ length hs → a ≡ Added.Refused f → OfLine (TakenIn m) (FreeIn m) (n + 1) l e → Result m n e m' a → LineMeans hs l (C.refuses f) × (m' ≡ m)
+  result_refused : {n : ℕ} {e : LineMeaning} {m' : Memory} {a : Result ℕ Refusal} {f : Refusal} → n ≡ length hs → a ≡ Err f → OfLine (TakenIn m) (FreeIn m) (n + 1) l e → Result m n e m' a → LineMeans hs l (C.refuses f) × (m' ≡ m)
   result_refused {n} {f = f} i j o (left_as {f = q}) =
       let p : q ≡ f = cc in
       (lined (subst (λ (x : ℕ). OfLine (TakenIn m) (FreeIn m) (x + 1) l (C.refuses f)) i (subst (λ (x : Refusal). OfLine (TakenIn m) (FreeIn m) (n + 1) l (C.refuses x)) p o)), refl)
   result_refused i j o (added d u) = let z : ◌≡◌ {A = ℕ} 0 1 = cc in absurd (never z)
 
-  adds_refused' : {n : ℕ} {m' : Memory} {a : Added} {f : Refusal} → n ≡ length hs → a ≡ Added.Refused f → Adds m n l m' a → LineMeans hs l (C.refuses f) × (m' ≡ m)
+  adds_refused' : {n : ℕ} {m' : Memory} {a : Result ℕ Refusal} {f : Refusal} → n ≡ length hs → a ≡ Err f → Adds m n l m' a → LineMeans hs l (C.refuses f) × (m' ≡ m)
   adds_refused' i j (made_up h) = absurd (omega (arith, g.few))
   adds_refused' i j (adds h o r) = result_refused i j o r
 
   -- one that was refused is refused so, and the memory is as it was
-  pub adds_refused : {n : ℕ} {m' : Memory} {f : Refusal} → n ≡ length hs → Adds m n l m' (Added.Refused f) → LineMeans hs l (C.refuses f) × (m' ≡ m)
+  pub adds_refused : {n : ℕ} {m' : Memory} {f : Refusal} → n ≡ length hs → Adds m n l m' (Err f) → LineMeans hs l (C.refuses f) × (m' ≡ m)
   adds_refused i w = adds_refused' i refl w
 
 -- ---- a whole catalogue, line after line
@@ -160,7 +156,7 @@ run_means {input} {front} {ls} {hs} w h ends = all_hold (subst (Lines input) (ap
 run_means {input} {front} w h (next {l = l} {ls = ks} p r) = run_means (subst (Lines input) (sym (append_assoc front (l ∷ []) ks)) w) (Hold.more h p) r
 run_means w h (stops {ls = ks} p) = first_refused ks w h p
 
-reading_means : {input : List ℕ} {front ls : List (List ℕ)} {hs : List House} {m m' : Memory} {n : ℕ} {a : Added} → Lines input (front ++ ls) → Hold front hs → Holds m hs → n ≡ length hs → Reading m n ls m' a → Read input m' a
+reading_means : {input : List ℕ} {front ls : List (List ℕ)} {hs : List House} {m m' : Memory} {n : ℕ} {a : Result ℕ Refusal} → Lines input (front ++ ls) → Hold front hs → Holds m hs → n ≡ length hs → Reading m n ls m' a → Read input m' a
 reading_means {input} {front} w h g i read_all = is_catalogue (run_means w h ends) g i
 reading_means {input} {front} w h g i (read_on {l = l} {ls = ks} p r) =
     let (x, y, z, e) = adds_holds g i p in
@@ -168,21 +164,21 @@ reading_means {input} {front} w h g i (read_on {l = l} {ls = ks} p r) =
 reading_means w h g i (read_refused p) = is_refused (run_means w h (stops (adds_refused g i p).0))
 
 -- from memory that holds nothing
-pub reads_catalogue : {input : List ℕ} {ls : List (List ℕ)} {m m' : Memory} {a : Added} → Lines input ls → Holds m [] → Reading m 0 ls m' a → Read input m' a
+pub reads_catalogue : {input : List ℕ} {ls : List (List ℕ)} {m m' : Memory} {a : Result ℕ Refusal} → Lines input ls → Holds m [] → Reading m 0 ls m' a → Read input m' a
 reads_catalogue w g r = reading_means w Hold.none g (omega arith) r
 
 -- two readings of one file come to the same
-pub read_one : {input : List ℕ} {m₁ m₂ : Memory} {a b : Added} → Read input m₁ a → Read input m₂ b → a ≡ b
+pub read_one : {input : List ℕ} {m₁ m₂ : Memory} {a b : Result ℕ Refusal} → Read input m₁ a → Read input m₂ b → a ≡ b
 read_one (is_catalogue {hs} p g i) (is_catalogue {hs = ks} q h j) =
     let e : catalogue hs ≡ catalogue ks = means_one p q in
     let d : hs ≡ ks = cc in
-    ap Added.Lines (i ∙ ap length d ∙ sym j)
+    ap Ok (i ∙ ap length d ∙ sym j)
 read_one (is_catalogue {hs} p g i) (is_refused {f} q) = let e : catalogue hs ≡ refused_by f = means_one p q in let z : ◌≡◌ {A = ℕ} 0 1 = cc in absurd (never z)
 read_one (is_refused {f} p) (is_catalogue {hs} q h j) = let e : catalogue hs ≡ refused_by f = means_one q p in let z : ◌≡◌ {A = ℕ} 0 1 = cc in absurd (never z)
 read_one (is_refused {f} p) (is_refused {f = g} q) =
     let e : refused_by f ≡ refused_by g = means_one p q in
     let d : f ≡ g = cc in
-    ap Added.Refused d
+    ap Err d
 
 -- ---- the calendars of a catalogue are accepted, and its names are distinct and not built in
 
@@ -248,12 +244,12 @@ catalogue_apart p = (means_sound p).house_names
 pub names_with_one : {input : List ℕ} {hs : List House} → Means input (catalogue hs) → (s : List ℕ) → One (NamesWith hs s)
 names_with_one {hs = hs} p s a b (C.built_in (of_row x)) (C.built_in (of_row y)) = of_row_same x y
   where
-    of_row_same : {c d : Calendar} → InTable s c → InTable s d → Chosen'.Calendar c ≡ Chosen'.Calendar d
+    of_row_same : {c d : Calendar} → InTable s c → InTable s d → Ok c ≡ Ok d
     of_row_same x y = sym (named_row x (passes (_, y) (of_row y)))
 names_with_one p s a b (C.built_in (of_row x)) (of_house n k h e) = absurd (n (_, x))
 names_with_one p s a b (C.built_in (of_row x)) (C.unknown n o) = absurd (n (_, x))
 names_with_one p s a b (of_house n k h e) (C.built_in (of_row x)) = absurd (n (_, x))
-names_with_one {hs = hs} p s a b (of_house n k h e) (of_house m j i f) = ap (λ (x : ℕ). Chosen'.Calendar (Reforming (line_at hs x).number)) same
+names_with_one {hs = hs} p s a b (of_house n k h e) (of_house m j i f) = ap (λ (x : ℕ). Ok (Reforming (line_at hs x).number)) same
   where
     same : k ≡ j
     same = ⊎_elim (λ l. absurd (catalogue_distinct p k j l i (e ∙ sym f))) (λ l. ⊎_elim (λ w. absurd (catalogue_distinct p j k w h (f ∙ sym e))) (λ w. omega arith) (lt_or_ge j k)) (lt_or_ge k j)
@@ -264,20 +260,20 @@ names_with_one p s a b (C.unknown n o) (C.unknown m q) = refl
 
 -- what is looked up in memory that holds the catalogue is what the catalogue says
 module _ {input : List ℕ} {hs : List House} (p : Means input (catalogue hs)) {m : Memory} (g : Holds m hs) where
-  house_named : {s : List ℕ} {z : ℤ} {a : Chosen} {b : Found} → ¬ Known s → b ≡ Found.Number z → Has hs s b → HouseCalendar z a → NamesWith hs s a
+  house_named : {s : List ℕ} {z : ℤ} {a : Result Calendar Refusal} {b : Option ℤ} → ¬ Known s → b ≡ Some z → Has hs s b → HouseCalendar z a → NamesWith hs s a
   house_named {s} {z} {a} n e (has k h i) (refuses o) = let j : (line_at hs k).number ≡ z = cc in absurd (o (subst AcceptedReformation j ((means_sound p).takes k h)))
   house_named {s} {z} {a} n e (has k h i) (passes o q) =
       let j : (line_at hs k).number ≡ z = cc in
-      subst (NamesWith hs s) (ap (λ (x : ℤ). Chosen'.Calendar (Reforming x)) j ∙ sym q) (of_house n k h i)
+      subst (NamesWith hs s) (ap (λ (x : ℤ). Ok (Reforming x)) j ∙ sym q) (of_house n k h i)
   house_named n e (has_not o) c = let z : ◌≡◌ {A = ℕ} 0 1 = cc in absurd (never z)
 
-  pub named_with : {s : List ℕ} {a : Chosen} → NamesIn m s a → NamesWith hs s a
+  pub named_with : {s : List ℕ} {a : Result Calendar Refusal} → NamesIn m s a → NamesWith hs s a
   named_with (R.built_in r) = C.built_in r
   named_with {s} (held n f c) = house_named n refl (finds_has g s f) c
   named_with {s} (R.unknown n f) = C.unknown n (not_named g refl (finds_has g s f))
 
 -- whatever the memory holds, a calendar that is given is accepted
-pub named_accepted : {m : Memory} {s : List ℕ} {a : Chosen} → NamesIn m s a → {c : Calendar} → a ≡ Chosen'.Calendar c → Accepted c
+pub named_accepted : {m : Memory} {s : List ℕ} {a : Result Calendar Refusal} → NamesIn m s a → {c : Calendar} → a ≡ Ok c → Accepted c
 named_accepted (R.built_in (of_row {c = b} x)) {c} e = let i : b ≡ c = cc in subst Accepted i (table_accepted x)
 named_accepted (held n f (refuses o)) e = let z : ◌≡◌ {A = ℕ} 0 1 = cc in absurd (never z)
 named_accepted (held n {z} f (passes o q)) {c} e = let i : Reforming z ≡ c = cc in subst Accepted i (reforming_accepted o)

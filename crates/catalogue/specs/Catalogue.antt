@@ -1,21 +1,20 @@
 -- A catalogue of house calendars, as the request M-100 has it. What the form of a line is stands in `Form` of the crate `houseline`. Nothing here
 -- reads.
 -- Assumes nothing.
-use Rattle.std.specs.Prelude.{ℕ, ◌+◌, ◌<◌, ◌≡◌, List, [], ◌∷◌, ◌++◌, ◌⊎◌, length, ℤ, pos}
+use Rattle.std.specs.Prelude.{ℕ, ◌+◌, ◌<◌, ◌≡◌, List, [], ◌∷◌, ◌++◌, ◌⊎◌, length, ℤ, pos, Result, Ok}
 use Rattle.days.specs.DayByDay.{Is32Bit}
 use Rattle.days.specs.ReformationRules.{Outcome, accepted, refused_1, refused_2, Judged}
 use Rattle.refusals.specs.declared.Refusal.{Refusal}
 use Rattle.refusals.specs.Promise.{refusal}
 use Rattle.calendar.specs.Rows.{Row, Unless, If}
 use Rattle.calendar.specs.declared.Calendar.TheVariants.{Reforming}
-use Rattle.calendar.specs.declared.Chosen.{Chosen}
-use Rattle.calendar.specs.declared.Chosen.TheVariants as Chosen'
 use Rattle.ncal.specs.Promise.{Known, OfRow, unknown_name_value}
 use Rattle.textlines.specs.Lines.{Lines}
 use Rattle.nametable.specs.Limits.{most_lines}
 use Rattle.nametable.specs.Houses.{House, house, name_at, line_at}
 use Rattle.houseline.specs.Form.{Form}
 use Rattle.houseline.specs.Promise.{LeavesAfter}
+use Rattle.calendar.specs.declared.Calendar.{Calendar}
 
 -- ---- a line: the calendar that it holds, or its refusal. n is its number, from 1
 
@@ -82,7 +81,7 @@ pub data Means (input : List ℕ) : Meaning → Type 0 where
 
 -- ---- a name, with a catalogue: the calendar that is built in, or the house calendar, or 19
 
-pub data NamesWith (hs : List House) (s : List ℕ) : Chosen → Type 0 where
-  built_in : {a : Chosen} → OfRow s a → NamesWith hs s a
-  of_house : ¬ Known s → (k : ℕ) → k < length hs → name_at hs k ≡ s → NamesWith hs s (Chosen'.Calendar (Reforming (line_at hs k).number))
+pub data NamesWith (hs : List House) (s : List ℕ) : Result Calendar Refusal → Type 0 where
+  built_in : {a : Result Calendar Refusal} → OfRow s a → NamesWith hs s a
+  of_house : ¬ Known s → (k : ℕ) → k < length hs → name_at hs k ≡ s → NamesWith hs s (Ok (Reforming (line_at hs k).number))
   unknown : ¬ Known s → ¬ Named hs s → NamesWith hs s unknown_name_value

@@ -10,18 +10,10 @@ ghost use Rattle.nametable.specs.Limits.{most_lines, most_name};
 ghost use Rattle.nametable.specs.Promise.{memory, Enters};
 ghost use Rattle.catalogue.specs.Promise.{IsTaken, AddsHouse, Adds, HouseCalendar, NamesIn};
 
-use calendar::{Calendar, Chosen};
+use calendar::Calendar;
 use houseline::HouseLine;
 pub use nametable::{LINES, LINK_COUNT, Links, NAME, NAME_BYTES, Names};
 use refusals::{Refusal, refusal_at};
-use switches::reformation::Judgement;
-
-// How many lines are held now, or why the line is refused. The place of a refusal is the number of the line, from 1.
-#[derive(Clone, Copy)]
-pub enum Added {
-    Lines(usize),
-    Refused(Refusal),
-}
 
 // Whether a name is taken, by a calendar that is built in or by one that is held.
 fn is_taken(names: &Names, links: &Links, name: &[u8]) -> bool
@@ -30,8 +22,8 @@ fn is_taken(names: &Names, links: &Links, name: &[u8]) -> bool
     match ncal::look_up(name) {
         ncal::Found::Calendar(_) => true,
         ncal::Found::Nothing => match nametable::find(names, links, name) {
-            nametable::Found::Number(_) => true,
-            nametable::Found::Nowhere => false,
+            Some(_) => true,
+            None => false,
         },
     }
 }
@@ -87,58 +79,58 @@ fn add_house(
     line: &[u8],
     end: usize,
     r: i32,
-) -> Added
+) -> Result<usize, Refusal>
     requires { (count ≤ most_lines) × ((end ≤ length line.now) × (end ≤ most_name)) }
     ensures { AddsHouse (memory names.old links.old) count (take end line.now) r (memory names.new links.new) result }
 {
     if front_taken(names, links, line, end) {
-        return Added::Refused(refusal_at(23, count + 1, 0));
+        return Err(refusal_at(23, count + 1, 0));
     }
     if LINES <= count {
-        return Added::Refused(refusal_at(24, count + 1, 0));
+        return Err(refusal_at(24, count + 1, 0));
     }
     match switches::reformation::judge(r) {
-        Judgement::Refused(number) => Added::Refused(refused_reformation(number, count + 1, r)),
-        Judgement::Accepted(_) => {
+        Err(number) => Err(refused_reformation(number, count + 1, r)),
+        Ok(_) => {
             enter_front(names, links, count, line, end, r);
-            Added::Lines(count + 1)
+            Ok(count + 1)
         }
     }
 }
 
 // One line more. The first that is refused refuses the whole catalogue, so every line before this one is held, and `count` tells how many they are.
-pub fn add_line(names: &mut Names, links: &mut Links, count: usize, line: &[u8]) -> Added
+pub fn add_line(names: &mut Names, links: &mut Links, count: usize, line: &[u8]) -> Result<usize, Refusal>
     ensures { Adds (memory names.old links.old) count line.now (memory names.new links.new) result }
 {
     if LINES < count {
-        return Added::Refused(refusal_at(16, 0, 0));
+        return Err(refusal_at(16, 0, 0));
     }
     match houseline::read_line(line) {
-        HouseLine::Malformed => Added::Refused(refusal_at(22, count + 1, 0)),
-        HouseLine::Outside(f) => Added::Refused(refused_number(count + 1, f)),
+        HouseLine::Malformed => Err(refusal_at(22, count + 1, 0)),
+        HouseLine::Outside(f) => Err(refused_number(count + 1, f)),
         HouseLine::House(end, r) => add_house(names, links, count, line, end, r),
     }
 }
 
 // The calendar of a house name. What a catalogue has left in the memory is accepted; anything else is made up.
-fn house_calendar(r: i32) -> Chosen
+fn house_calendar(r: i32) -> Result<Calendar, Refusal>
     ensures { HouseCalendar r result }
 {
     match switches::reformation::judge(r) {
-        Judgement::Accepted(_) => Chosen::Calendar(Calendar::Reforming(r)),
-        Judgement::Refused(_) => Chosen::Refused(refusal_at(16, 0, 0)),
+        Ok(_) => Ok(Calendar::Reforming(r)),
+        Err(_) => Err(refusal_at(16, 0, 0)),
     }
 }
 
 // The calendar of a name, built in or held.
-pub fn named(names: &Names, links: &Links, name: &[u8]) -> Chosen
+pub fn named(names: &Names, links: &Links, name: &[u8]) -> Result<Calendar, Refusal>
     ensures { NamesIn (memory names.now links.now) name.now result }
 {
     match ncal::look_up(name) {
-        ncal::Found::Calendar(calendar) => Chosen::Calendar(calendar),
+        ncal::Found::Calendar(calendar) => Ok(calendar),
         ncal::Found::Nothing => match nametable::find(names, links, name) {
-            nametable::Found::Number(r) => house_calendar(r),
-            nametable::Found::Nowhere => Chosen::Refused(refusal_at(19, 0, 0)),
+            Some(r) => house_calendar(r),
+            None => Err(refusal_at(19, 0, 0)),
         },
     }
 }

@@ -7,10 +7,9 @@
 
 ghost use Rattle.std.specs.Prelude.{◌≡◌, ◌+◌, ◌<◌, ◌≤◌, length};
 
-use calendar::{Calendar, Chosen};
-use catalogue::{Added, LINK_COUNT, Links, NAME_BYTES, Names};
-use catalogueread::{BlockRead, LONGEST_READ, Progress};
-use numbertext::Number;
+use calendar::Calendar;
+use catalogue::{LINK_COUNT, Links, NAME_BYTES, Names};
+use catalogueread::{LONGEST_READ, Progress};
 use refusals::Refusal;
 
 const INPUT: usize = 262_144;
@@ -23,20 +22,20 @@ fn read_rest(
     names: &mut Names,
     links: &mut Links,
     line: &mut [u8; LONGEST_READ],
-) -> Added {
+) -> Result<usize, Refusal> {
     let from = Progress {
         at: 0,
         lines: reached.lines,
         held: reached.held,
     };
     match catalogueread::read_block(names, links, line, rest, from) {
-        BlockRead::Refused(why) => Added::Refused(why),
-        BlockRead::Going(p) => catalogueread::read_last(names, links, line, p.lines, p.held),
+        Err(why) => Err(why),
+        Ok(p) => catalogueread::read_last(names, links, line, p.lines, p.held),
     }
 }
 
 // As two blocks, the first of `cut` bytes.
-fn read_cut(file: &[u8], cut: usize, names: &mut Names, links: &mut Links) -> Added
+fn read_cut(file: &[u8], cut: usize, names: &mut Names, links: &mut Links) -> Result<usize, Refusal>
     requires { cut ≤ length file.now }
 {
     let mut line = [0u8; LONGEST_READ];
@@ -46,22 +45,22 @@ fn read_cut(file: &[u8], cut: usize, names: &mut Names, links: &mut Links) -> Ad
         held: 0,
     };
     match catalogueread::read_block(names, links, &mut line, &file[..cut], start) {
-        BlockRead::Refused(why) => Added::Refused(why),
-        BlockRead::Going(p) => read_rest(&file[cut..], p, names, links, &mut line),
+        Err(why) => Err(why),
+        Ok(p) => read_rest(&file[cut..], p, names, links, &mut line),
     }
 }
 
 // ---- The same catalogue cut in two
 
-fn same_answer(a: Added, b: Added) -> bool {
+fn same_answer(a: Result<usize, Refusal>, b: Result<usize, Refusal>) -> bool {
     match a {
-        Added::Lines(n) => match b {
-            Added::Lines(m) => n == m,
-            Added::Refused(_) => false,
+        Ok(n) => match b {
+            Ok(m) => n == m,
+            Err(_) => false,
         },
-        Added::Refused(why) => match b {
-            Added::Lines(_) => false,
-            Added::Refused(other) => {
+        Err(why) => match b {
+            Ok(_) => false,
+            Err(other) => {
                 why.number == other.number && why.place == other.place && why.value == other.value
             }
         },
@@ -79,7 +78,7 @@ fn same_memory(names: &Names, links: &Links, other_names: &Names, other_links: &
     names[..] == other_names[..]
 }
 
-fn is_same(file: &[u8], cut: usize, names: &Names, links: &Links, expected: Added) -> bool
+fn is_same(file: &[u8], cut: usize, names: &Names, links: &Links, expected: Result<usize, Refusal>) -> bool
     requires { cut ≤ length file.now }
 {
     let mut other_names = [0u8; NAME_BYTES];
@@ -96,7 +95,7 @@ fn is_cut(size: usize, cut: usize) -> bool
 }
 
 // How many of the ways to cut a catalogue come to the same.
-fn same_ways(file: &[u8], names: &Names, links: &Links, expected: Added) -> u64 {
+fn same_ways(file: &[u8], names: &Names, links: &Links, expected: Result<usize, Refusal>) -> u64 {
     let mut same: u64 = 0;
     let mut cut: usize = 0;
     while cut < file.len() {
@@ -128,12 +127,12 @@ fn write_refusal(rt: &HostRuntime, why: Refusal) {
     write_whole(rt, why.value);
 }
 
-fn write_answer(rt: &HostRuntime, answer: Added) {
+fn write_answer(rt: &HostRuntime, answer: Result<usize, Refusal>) {
     match answer {
-        Added::Lines(n) => {
+        Ok(n) => {
             streams::print_decimal(rt, n as u64);
         }
-        Added::Refused(why) => write_refusal(rt, why),
+        Err(why) => write_refusal(rt, why),
     }
 }
 
@@ -149,10 +148,10 @@ fn write_calendar(rt: &HostRuntime, calendar: Calendar) {
     }
 }
 
-fn write_named(rt: &HostRuntime, answer: Chosen) {
+fn write_named(rt: &HostRuntime, answer: Result<Calendar, Refusal>) {
     match answer {
-        Chosen::Calendar(calendar) => write_calendar(rt, calendar),
-        Chosen::Refused(why) => write_refusal(rt, why),
+        Ok(calendar) => write_calendar(rt, calendar),
+        Err(why) => write_refusal(rt, why),
     }
 }
 
@@ -206,7 +205,7 @@ fn piece_at(input: &[u8], at: usize) -> Piece
     requires { at < length input.now }
     ensures { (result.from ≤ result.to) × ((result.to ≤ length input.now) × (at < result.next)) }
 {
-    if let Number::Value(size, after) = numbertext::number_at(input, at + 1) {
+    if let Ok((size, after)) = numbertext::number_at(input, at + 1) {
         if at < after {
             if after < input.len() {
                 return piece_from(after + 1, size as usize, input.len());

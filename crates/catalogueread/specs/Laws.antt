@@ -1,12 +1,12 @@
 -- What the proofs need: line after line, what is still to come leads from where the block was begun.
 -- Assumes nothing.
-use Rattle.std.specs.Prelude.{ℕ, ◌≤◌, ◌<◌, ◌≡◌, List, length}
+use Rattle.std.specs.Prelude.{ℕ, ◌≤◌, ◌<◌, ◌≡◌, List, length, Result, Ok}
 use Rattle.std.proofs.Common.{subst, arith}
 use Rattle.textlines.specs.Laws.{rest_grows, line_grows}
 use Rattle.nametable.specs.Limits.{most_lines}
 use Rattle.nametable.specs.Promise.{Memory}
-use Rattle.catalogue.specs.declared.Added.{Added}
 use Rattle.catalogueread.specs.Promise.{made_up_value, AddsHeld, ReadState, going, Reached, ReadsNext, ReadsBlock, ReadsLast}
+use Rattle.refusals.specs.declared.Refusal.{Refusal}
 
 abbrev pub Leads : List ℕ → ReadState → ReadState → Type 0
 Leads b s t = (e : Reached) → ReadsBlock b t e → ReadsBlock b s e
@@ -20,17 +20,17 @@ next_grows (ReadsNext.line f g) h = line_grows f
 
 -- ---- the end of the file, where a line is held
 
-pub last_more : {m : Memory} {n : ℕ} {l : List ℕ} {h : ℕ} {m' : Memory} {a : Added} → 0 < h → AddsHeld m n l h m' a → ReadsLast m n l h m' a
+pub last_more : {m : Memory} {n : ℕ} {l : List ℕ} {h : ℕ} {m' : Memory} {a : Result ℕ Refusal} → 0 < h → AddsHeld m n l h m' a → ReadsLast m n l h m' a
 last_more = ReadsLast.one_more
 
 -- ---- and where nothing is held
 
 module _ {m : Memory} {n : ℕ} {l : List ℕ} {h : ℕ} (k : h ≤ 0) where
-  nothing : {a : Added} → ReadsLast m n l 0 m a → ReadsLast m n l h m a
+  nothing : {a : Result ℕ Refusal} → ReadsLast m n l 0 m a → ReadsLast m n l h m a
   nothing {a} r = let e : 0 ≡ h = omega arith in subst (λ (x : ℕ). ReadsLast m n l x m a) e r
 
   pub last_made_up : most_lines < n → ReadsLast m n l h m made_up_value
   last_made_up i = nothing (ReadsLast.no_count i)
 
-  pub last_none : n ≤ most_lines → ReadsLast m n l h m (Added.Lines n)
+  pub last_none : n ≤ most_lines → ReadsLast m n l h m (Ok n)
   last_none i = nothing (ReadsLast.no_more i)

@@ -1,16 +1,15 @@
 -- Two results that a promise allows are equal.
 -- Assumes nothing.
-use Rattle.std.specs.Prelude.{ℕ, ◌≡◌, refl, List}
+use Rattle.std.specs.Prelude.{ℕ, ◌≡◌, refl, List, Result}
 use Rattle.std.proofs.Common.{sym, ◌∙◌, ap, ap₂, subst, arith}
 use Rattle.bytesearch.specs.One.{never}
 use Rattle.refusals.specs.declared.Refusal.{Refusal}
 use Rattle.textlines.specs.One.{takes_rest_one, takes_line_one, rest_or_line}
 use Rattle.nametable.specs.Promise.{Memory}
-use Rattle.catalogue.specs.declared.Added.{Added}
 use Rattle.catalogue.proofs.One.{adds_one}
 use Rattle.catalogueread.specs.Promise.{AddsHeld, ReadState, read_state, Reached, going, stopped, ReadsNext, ReadsBlock, ReadsLast}
 
-adds_held_one : {m : Memory} {n : ℕ} {l : List ℕ} {h : ℕ} {m₁ m₂ : Memory} {a b : Added} → AddsHeld m n l h m₁ a → AddsHeld m n l h m₂ b → (m₁ ≡ m₂) × (a ≡ b)
+adds_held_one : {m : Memory} {n : ℕ} {l : List ℕ} {h : ℕ} {m₁ m₂ : Memory} {a b : Result ℕ Refusal} → AddsHeld m n l h m₁ a → AddsHeld m n l h m₂ b → (m₁ ≡ m₂) × (a ≡ b)
 adds_held_one (AddsHeld.no_count i) (AddsHeld.no_count j) = (refl, refl)
 adds_held_one (AddsHeld.no_count i) (AddsHeld.short j k p) = absurd (omega arith)
 adds_held_one (AddsHeld.no_count i) (AddsHeld.long j k) = absurd (omega arith)
@@ -22,7 +21,7 @@ adds_held_one (AddsHeld.long i h) (AddsHeld.short j k q) = absurd (omega arith)
 adds_held_one (AddsHeld.long i h) (AddsHeld.long j k) = (refl, refl)
 
 -- the same line, held in the same way
-held_same : {m : Memory} {n : ℕ} {l k : List ℕ} {h i : ℕ} {m₁ m₂ : Memory} {a b : Added} → l ≡ k → h ≡ i → AddsHeld m n l h m₁ a → AddsHeld m n k i m₂ b → (m₁ ≡ m₂) × (a ≡ b)
+held_same : {m : Memory} {n : ℕ} {l k : List ℕ} {h i : ℕ} {m₁ m₂ : Memory} {a b : Result ℕ Refusal} → l ≡ k → h ≡ i → AddsHeld m n l h m₁ a → AddsHeld m n k i m₂ b → (m₁ ≡ m₂) × (a ≡ b)
 held_same {m} {n} {l} {k} {h} {i} {m₂ = m₂} {b = b} e d p q =
     adds_held_one p (subst (λ (x : List ℕ). AddsHeld m n x h m₂ b) (sym e) (subst (λ (x : ℕ). AddsHeld m n k x m₂ b) (sym d) q))
 
@@ -80,7 +79,7 @@ read_block_one (ReadsBlock.stops {m = m} {l = l} {f = f} h v) (ReadsBlock.goes_o
     absurd (never z)
 read_block_one (ReadsBlock.stops h v) (ReadsBlock.stops k w) = next_one v w
 
-pub read_last_one : {m : Memory} {n : ℕ} {l : List ℕ} {h : ℕ} {m₁ m₂ : Memory} {a b : Added} → ReadsLast m n l h m₁ a → ReadsLast m n l h m₂ b → (m₁ ≡ m₂) × (a ≡ b)
+pub read_last_one : {m : Memory} {n : ℕ} {l : List ℕ} {h : ℕ} {m₁ m₂ : Memory} {a b : Result ℕ Refusal} → ReadsLast m n l h m₁ a → ReadsLast m n l h m₂ b → (m₁ ≡ m₂) × (a ≡ b)
 read_last_one (ReadsLast.one_more h p) (ReadsLast.one_more k q) = adds_held_one p q
 read_last_one (ReadsLast.one_more h p) (ReadsLast.no_count k) = absurd (omega arith)
 read_last_one (ReadsLast.one_more h p) (ReadsLast.no_more k) = absurd (omega arith)

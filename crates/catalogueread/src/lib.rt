@@ -9,7 +9,7 @@ ghost use Rattle.nametable.specs.Promise.{memory};
 ghost use Rattle.catalogue.specs.Promise.{Adds};
 ghost use Rattle.catalogueread.specs.Promise.{AddsHeld, read_state, reached, ReadsNext, ReadsBlock, ReadsLast};
 
-use catalogue::{Added, LINES, Links, Names};
+use catalogue::{LINES, Links, Names};
 use refusals::{Refusal, refusal_at};
 pub use textlines::LONGEST_READ;
 
@@ -21,14 +21,7 @@ pub struct Progress {
     pub held: usize,
 }
 
-// Where reading is, or why the catalogue is refused: then nothing more is to be read.
-#[derive(Clone, Copy)]
-pub enum BlockRead {
-    Going(Progress),
-    Refused(Refusal),
-}
-
-fn add_front(names: &mut Names, links: &mut Links, lines: usize, line: &[u8], held: usize) -> Added
+fn add_front(names: &mut Names, links: &mut Links, lines: usize, line: &[u8], held: usize) -> Result<usize, Refusal>
     requires { held ≤ length line.now }
     ensures { Adds (memory names.old links.old) lines (take held line.now) (memory names.new links.new) result }
 {
@@ -42,16 +35,16 @@ fn add_held(
     lines: usize,
     line: &[u8; LONGEST_READ],
     held: usize,
-) -> Added
+) -> Result<usize, Refusal>
     ensures { AddsHeld (memory names.old links.old) lines line.now held (memory names.new links.new) result }
 {
     if LINES < lines {
-        return Added::Refused(refusal_at(16, 0, 0));
+        return Err(refusal_at(16, 0, 0));
     }
     if held <= LONGEST_READ {
         return add_front(names, links, lines, line, held);
     }
-    Added::Refused(refusal_at(22, lines + 1, 0))
+    Err(refusal_at(22, lines + 1, 0))
 }
 
 // Reads one line of the block, or holds what the block has of it.
@@ -61,7 +54,7 @@ fn read_next(
     line: &mut [u8; LONGEST_READ],
     block: &[u8],
     from: Progress,
-) -> BlockRead
+) -> Result<Progress, Refusal>
     requires { from.at < length block.now }
     ensures { ReadsNext block.now (read_state from.at (memory names.old links.old) from.lines line.old from.held) (reached result (memory names.new links.new) line.new) }
 {
@@ -71,15 +64,15 @@ fn read_next(
     if end < block.len() {
         let next = end + 1;
         return match add_held(names, links, from.lines, line, n) {
-            Added::Refused(why) => BlockRead::Refused(why),
-            Added::Lines(lines) => BlockRead::Going(Progress {
+            Err(why) => Err(why),
+            Ok(lines) => Ok(Progress {
                 at: next,
                 lines,
                 held: 0,
             }),
         };
     }
-    BlockRead::Going(Progress {
+    Ok(Progress {
         at: end,
         lines: from.lines,
         held: n,
@@ -93,19 +86,19 @@ pub fn read_block(
     line: &mut [u8; LONGEST_READ],
     block: &[u8],
     from: Progress,
-) -> BlockRead
+) -> Result<Progress, Refusal>
     ensures { ReadsBlock block.now (read_state from.at (memory names.old links.old) from.lines line.old from.held) (reached result (memory names.new links.new) line.new) }
 {
     let mut p = from;
     while p.at < block.len() {
         match read_next(names, links, line, block, p) {
-            BlockRead::Refused(why) => return BlockRead::Refused(why),
-            BlockRead::Going(next) => {
+            Err(why) => return Err(why),
+            Ok(next) => {
                 p = next;
             }
         }
     }
-    BlockRead::Going(p)
+    Ok(p)
 }
 
 // The end of the file: the last line, which needs no newline, and how many lines the catalogue has.
@@ -116,14 +109,14 @@ pub fn read_last(
     line: &[u8; LONGEST_READ],
     lines: usize,
     held: usize,
-) -> Added
+) -> Result<usize, Refusal>
     ensures { ReadsLast (memory names.old links.old) lines line.now held (memory names.new links.new) result }
 {
     if 0 < held {
         return add_held(names, links, lines, line, held);
     }
     if LINES < lines {
-        return Added::Refused(refusal_at(16, 0, 0));
+        return Err(refusal_at(16, 0, 0));
     }
-    Added::Lines(lines)
+    Ok(lines)
 }

@@ -1,6 +1,6 @@
 -- From what the calls below say to the promises.
 -- Assumes nothing.
-use Rattle.std.specs.Prelude.{ℕ, ◌+◌, ◌≤◌, ◌≡◌, refl, Bool, true, false, cond, List, ◌++◌, eqb, ℤ, pos, negsuc, length}
+use Rattle.std.specs.Prelude.{ℕ, ◌+◌, ◌≤◌, ◌≡◌, refl, Bool, true, false, cond, List, ◌++◌, eqb, ℤ, pos, negsuc, length, Some, None}
 use Rattle.std.proofs.Common.{sym, ◌∙◌, ap, subst, true≢false, zero-add, arith, ltb-true, eqb-true, ⊎_elim}
 use Rattle.whole.specs.Tests.{true_or_false}
 use Rattle.std.specs.Int.Signed.{lt_z}
@@ -8,7 +8,6 @@ use Rattle.whole.specs.Text.{bytes}
 use Rattle.writer.specs.Promise.{Copies, Signs, Decimal}
 use Rattle.writer.specs.Laws.{PutText, decimal_of}
 use Rattle.writer.proofs.PutLaws.{length_put}
-use Rattle.writer.specs.declared.buffer.Copied.{Copied}
 use Rattle.linetext.specs.Laws.{Text, put_text, text_then}
 use Rattle.filter.specs.Promise.{arrived_of, block_size}
 use Rattle.filter.specs.declared.State.{State}
@@ -55,10 +54,10 @@ complains {o} {o'} {r = r} {s} q e w = subst (λ (v : CatalogueRun). Complains o
 
 -- ---- a text with room for it
 
-pub put_copied : {t o : List ℕ} {at : ℕ} {o' : List ℕ} {i : ℕ} → Copies t o at o' (Copied.To i) → PutText o at t o' i
+pub put_copied : {t o : List ℕ} {at : ℕ} {o' : List ℕ} {i : ℕ} → Copies t o at o' (Some i) → PutText o at t o' i
 put_copied (Copies.copied h) = record { is = refl; offset = refl }
 
-pub never_full : {t o : List ℕ} {at : ℕ} {o' : List ℕ} → at + length t ≤ length o → Copies t o at o' Copied.NoRoom → ⊥
+pub never_full : {t o : List ℕ} {at : ℕ} {o' : List ℕ} → at + length t ≤ length o → Copies t o at o' None → ⊥
 never_full h (Copies.no_room k) = omega arith
 
 -- ---- a refusal in words

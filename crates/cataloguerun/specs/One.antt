@@ -1,6 +1,6 @@
 -- Two results that a promise allows for one input are equal. That of `start` and `reads_on` is an equation.
 -- Assumes nothing.
-use Rattle.std.specs.Prelude.{ℕ, ◌≡◌, List, ◌++◌, length, take}
+use Rattle.std.specs.Prelude.{ℕ, ◌≡◌, List, ◌++◌, length, take, Result, Ok, Err}
 use Rattle.std.proofs.Math.Path.{refl}
 use Rattle.std.proofs.Common.{sym, ◌∙◌, ap, true≢false}
 use Rattle.writer.specs.Promise.{put}
@@ -11,11 +11,11 @@ use Rattle.filter.specs.declared.State.{State}
 use Rattle.filter.specs.Promise.{state_with_value}
 use Rattle.filter.specs.One.{puts_message_one}
 use Rattle.nametable.specs.Promise.{Memory}
-use Rattle.catalogue.specs.declared.Added.{Added}
 use Rattle.catalogueread.specs.Promise.{read_state, Reached, going, stopped, ReadsBlock, ReadsLast}
 use Rattle.catalogueread.specs.One.{read_block_one, read_last_one}
 use Rattle.cataloguerun.specs.declared.CatalogueRun.{CatalogueRun}
 use Rattle.cataloguerun.specs.Promise.{Advances, Closes, GoesOn, refused_at, words_of, Reason, reason, reasons, Complains}
+use Rattle.refusals.specs.declared.Refusal.{Refusal}
 
 -- what a block that was read comes to
 memory_of : Reached → Memory
@@ -44,12 +44,12 @@ module _ {b : List ℕ} {from k : ℕ} {m : Memory} {n : ℕ} {l : List ℕ} {h 
       let q = read_block_one x y in
       (sym i ∙ ap memory_of q ∙ i', sym j ∙ ap line_of q ∙ j', sym k ∙ ap run_of q ∙ k')
 
-closed_as : Added → CatalogueRun
-closed_as (Added.Lines n) = CatalogueRun.Ready
-closed_as (Added.Refused f) = CatalogueRun.Refused f
+closed_as : Result ℕ Refusal → CatalogueRun
+closed_as (Ok n) = CatalogueRun.Ready
+closed_as (Err f) = CatalogueRun.Refused f
 
 module _ {m : Memory} {n : ℕ} {l : List ℕ} {h : ℕ} where
-  added_by : {m' : Memory} {r : CatalogueRun} → Closes m n l h m' r → (a : Added) × ReadsLast m n l h m' a × (closed_as a ≡ r)
+  added_by : {m' : Memory} {r : CatalogueRun} → Closes m n l h m' r → (a : Result ℕ Refusal) × ReadsLast m n l h m' a × (closed_as a ≡ r)
   unfolding closed_as
   added_by (Closes.closes w) = (_, w, refl)
   added_by (Closes.refuses w) = (_, w, refl)

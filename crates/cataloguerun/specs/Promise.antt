@@ -1,6 +1,6 @@
 -- What is promised of a program's catalogue: how it is read, block by block, and what is said of it on standard error.
 -- Assumes nothing.
-use Rattle.std.specs.Prelude.{ℕ, ◌≡◌, Bool, true, false, cond, List, ◌++◌, eqb, ℤ, pos, negsuc, length, take}
+use Rattle.std.specs.Prelude.{ℕ, ◌≡◌, Bool, true, false, cond, List, ◌++◌, eqb, ℤ, pos, negsuc, length, take, Ok, Err}
 use Rattle.whole.specs.Text.{bytes}
 use Rattle.writer.specs.Promise.{put, Decimal}
 use Rattle.refusals.specs.declared.Refusal.{Refusal}
@@ -10,7 +10,6 @@ use Rattle.filter.specs.declared.Phase.TheVariants.{Failing, Ended}
 use Rattle.filter.specs.declared.State.{State}
 use Rattle.filter.specs.Promise.{state_with_value, PutsMessage}
 use Rattle.nametable.specs.Promise.{Memory}
-use Rattle.catalogue.specs.declared.Added.TheVariants as Added'
 use Rattle.catalogueread.specs.Promise.{ReadState, read_state, going, stopped, ReadsBlock, ReadsLast}
 use Rattle.cataloguerun.specs.declared.CatalogueRun.{CatalogueRun}
 use Rattle.cataloguerun.specs.declared.CatalogueRun.TheVariants.{Reading, Ready, Refused, Unread}
@@ -36,8 +35,8 @@ pub data Advances (b : List ℕ) (from k : ℕ) (m : Memory) (n : ℕ) (l : List
 
 -- the end of the file
 pub data Closes (m : Memory) (n : ℕ) (l : List ℕ) (h : ℕ) : Memory → CatalogueRun → Type 0 where
-  closes : {m' : Memory} {k : ℕ} → ReadsLast m n l h m' (Added'.Lines k) → Closes m n l h m' Ready
-  refuses : {m' : Memory} {f : Refusal} → ReadsLast m n l h m' (Added'.Refused f) → Closes m n l h m' (Refused f)
+  closes : {m' : Memory} {k : ℕ} → ReadsLast m n l h m' (Ok k) → Closes m n l h m' Ready
+  refuses : {m' : Memory} {f : Refusal} → ReadsLast m n l h m' (Err f) → Closes m n l h m' (Refused f)
 
 -- by what a read came to; what is read no further stays as it is
 pub data GoesOn (b : List ℕ) (m : Memory) (l : List ℕ) : CatalogueRun → Event → Memory → List ℕ → CatalogueRun → Type 0 where

@@ -1,7 +1,7 @@
 -- THE THEOREM ON A PROGRAM'S CATALOGUE. A program that reads its catalogue as the turns say, and whose reads do not fail, comes to what the file
 -- means, in whatever parts that is read (`run_reads`).
 -- Assumes nothing.
-use Rattle.std.specs.Prelude.{ℕ, ◌≤◌, min, ◌≡◌, refl, List, [], ◌∷◌, ◌++◌, length, take, pos}
+use Rattle.std.specs.Prelude.{ℕ, ◌≤◌, min, ◌≡◌, refl, List, [], ◌∷◌, ◌++◌, length, take, pos, Result, Ok, Err}
 use Rattle.std.proofs.Common.{◌∙◌, ap, subst, true≢false, append-nil}
 use Rattle.std.proofs.Math.Nat.{min-eq_left}
 use Rattle.refusals.specs.declared.Refusal.{Refusal}
@@ -10,7 +10,6 @@ use Rattle.textlines.specs.Lines.{longest_read, joined}
 use Rattle.nametable.specs.Promise.{Memory}
 use Rattle.nametable.specs.Houses.{House}
 use Rattle.nametable.specs.Holds.{Holds}
-use Rattle.catalogue.specs.declared.Added.{Added}
 use Rattle.catalogue.specs.Catalogue.{catalogue, refused_by, Means}
 use Rattle.catalogue.specs.Theorems.{Read, is_catalogue, is_refused}
 use Rattle.catalogueread.specs.Promise.{ReadState, Reached, ReadsBlock}
@@ -36,13 +35,13 @@ pub data ComesTo (house : List ℕ) : CatalogueRun → Memory → Type 0 where
 
 -- ---- the turns are calls of `read_block`, and then of `read_last`
 
-data EndsAs : Added → CatalogueRun → Type 0 where
-  as_ready : {n : ℕ} → EndsAs (Added.Lines n) Ready
-  as_refused : {f : Refusal} → EndsAs (Added.Refused f) (Refused f)
+data EndsAs : Result ℕ Refusal → CatalogueRun → Type 0 where
+  as_ready : {n : ℕ} → EndsAs (Ok n) Ready
+  as_refused : {f : Refusal} → EndsAs (Err f) (Refused f)
 
 record Made (n h : ℕ) (m : Memory) (l i : List ℕ) (r : CatalogueRun) (m' : Memory) : Type 0 where
   parts : List (List ℕ)
-  answer : Added
+  answer : Result ℕ Refusal
   calls : Calls m n l h parts m' answer
   all : joined parts ≡ i
   ends_as : EndsAs answer r
@@ -57,14 +56,14 @@ made (Turns.reads {x = x} {b = b} c k e (GoesOn.some (Advances.reads w)) v) =
     record { parts = (x ∷ c) ∷ g.parts; answer = g.answer; calls = Calls.reads (came b (x ∷ c) k e w) g.calls; all = ap (λ (y : List ℕ). (x ∷ c) ++ y) g.all; ends_as = g.ends_as }
 made (Turns.reads c k e (GoesOn.over h) v) = absurd (true≢false h)
 made (Turns.stops {x = x} {b = b} {f} c i k e (GoesOn.some (Advances.refuses w))) =
-    record { parts = (x ∷ c) ∷ (i ∷ []); answer = Added.Refused f; calls = Calls.refused (came b (x ∷ c) k e w); all = ap (λ (y : List ℕ). (x ∷ c) ++ y) (append-nil i); ends_as = as_refused }
+    record { parts = (x ∷ c) ∷ (i ∷ []); answer = Err f; calls = Calls.refused (came b (x ∷ c) k e w); all = ap (λ (y : List ℕ). (x ∷ c) ++ y) (append-nil i); ends_as = as_refused }
 made (Turns.ends (GoesOn.no_more (Closes.closes w))) = record { parts = []; answer = _; calls = Calls.ends w; all = refl; ends_as = as_ready }
 made (Turns.ends (GoesOn.no_more (Closes.refuses w))) = record { parts = []; answer = _; calls = Calls.ends w; all = refl; ends_as = as_refused }
 made (Turns.ends (GoesOn.over h)) = absurd (true≢false h)
 
 -- ---- the theorem
 
-comes_to : {house : List ℕ} {a : Added} {r : CatalogueRun} {m : Memory} → Read house m a → EndsAs a r → ComesTo house r m
+comes_to : {house : List ℕ} {a : Result ℕ Refusal} {r : CatalogueRun} {m : Memory} → Read house m a → EndsAs a r → ComesTo house r m
 comes_to (is_catalogue p g e) as_ready = ready p g
 comes_to (is_refused p) as_refused = refused p
 

@@ -12,13 +12,12 @@ ghost use Rattle.writer.specs.Promise.{Signs};
 ghost use Rattle.linetext.specs.Laws.{Text};
 ghost use Rattle.cataloguerun.specs.Promise.{start_of, reads_on_value, Advances, Closes, GoesOn, words_of, Reasons, Complains};
 
-use catalogue::{Added, Links, Names};
+use catalogue::{Links, Names};
 pub use catalogueread::LONGEST_READ;
-use catalogueread::{BlockRead, Progress};
+use catalogueread::Progress;
 use filter::{BLOCK_SIZE, Event, Phase, State};
 use refusals::Refusal;
-use writer::buffer::Copied;
-use writer::{Written, buffer};
+use writer::buffer;
 
 // How far it is read, or what it came to.
 #[derive(Clone, Copy)]
@@ -101,8 +100,8 @@ fn advance(
     ensures { Advances block.now from.at count (memory names.old links.old) from.lines line.old from.held (memory names.new links.new) line.new result }
 {
     match catalogueread::read_block(names, links, line, filter::front(block, count), from) {
-        BlockRead::Going(p) => CatalogueRun::Reading(p.lines, p.held),
-        BlockRead::Refused(why) => CatalogueRun::Refused(why),
+        Ok(p) => CatalogueRun::Reading(p.lines, p.held),
+        Err(why) => CatalogueRun::Refused(why),
     }
 }
 
@@ -117,8 +116,8 @@ fn close(
     ensures { Closes (memory names.old links.old) lines line.now held (memory names.new links.new) result }
 {
     match catalogueread::read_last(names, links, line, lines, held) {
-        Added::Lines(_) => CatalogueRun::Ready,
-        Added::Refused(why) => CatalogueRun::Refused(why),
+        Ok(_) => CatalogueRun::Ready,
+        Err(why) => CatalogueRun::Refused(why),
     }
 }
 
@@ -159,8 +158,8 @@ fn put_text(out: &mut [u8], at: usize, text: &[u8]) -> usize
     ensures { PutText out.old at text.now out.new result }
 {
     match buffer::copy_text(out, at, text) {
-        Copied::To(end) => end,
-        Copied::NoRoom => at,
+        Some(end) => end,
+        None => at,
     }
 }
 
@@ -169,8 +168,8 @@ fn put_decimal(out: &mut [u8], at: usize, n: usize) -> usize
     ensures { Text (Signs false n) 20 out.old at out.new result }
 {
     match writer::put_at(out, at, false, n as u64) {
-        Written::Done(end) => end,
-        Written::Refused(_) => at,
+        Ok(end) => end,
+        Err(_) => at,
     }
 }
 

@@ -1,15 +1,12 @@
 -- The columns of the listing, as the scope has them: the numbers that stand in the line of an answer, and the header over them.
-use Rattle.std.specs.Prelude.{ℕ, ◌+◌, ◌*◌, List}
+use Rattle.std.specs.Prelude.{ℕ, ◌+◌, ◌*◌, List, Result, Ok, Err}
 use Rattle.days.specs.DayByDay.{weekday}
 use Rattle.calendar.specs.declared.Style.{Style}
 use Rattle.calendar.specs.declared.Style.TheVariants as Style'
 use Rattle.calendar.specs.declared.Date.{Date}
-use Rattle.calendar.specs.declared.Dated.{Dated}
-use Rattle.calendar.specs.declared.Dated.TheVariants as Dated'
 use Rattle.whole.specs.Text.{bytes}
 use Rattle.linetext.specs.declared.LineNumbers.{LineNumbers}
-use Rattle.linetext.specs.declared.Line.{Line}
-use Rattle.linetext.specs.declared.Line.TheVariants as Line'
+use Rattle.refusals.specs.declared.Refusal.{Refusal}
 
 -- the letters of a style as one number, the first and 256 times the second: `O` and `S` for old style, `N` and `S` for new,
 -- `S` and `V` for the Swedish one
@@ -23,9 +20,9 @@ abbrev pub numbers_of_value : Date → LineNumbers
 numbers_of_value d = record { jdn = d.jdn; year = d.year; ordinal = d.ordinal; month = d.month; day = d.day; weekday = weekday d.jdn; style = style_letters_value d.style }
 
 -- the line of an answer: the numbers of the date, or the refusal as it is
-abbrev pub line_of : Dated → Line
-line_of (Dated'.Date d) = Line'.Numbers (numbers_of_value d)
-line_of (Dated'.Refused f) = Line'.Refusal f
+abbrev pub line_of : Result Date Refusal → Result LineNumbers Refusal
+line_of (Ok d) = Ok (numbers_of_value d)
+line_of (Err f) = Err f
 
 unfoldable pub header : List ℕ
 header = bytes "jdn\tyear\tordinal\tmonth\tday\tweekday\tstyle\n"

@@ -7,10 +7,10 @@ ghost use Rattle.std.specs.Prelude.{◌≡◌};
 ghost use Rattle.columns.specs.Columns.{style_letters_value, numbers_of_value, line_of};
 ghost use Rattle.columns.specs.Promise.{PutsHeader};
 
-use calendar::{Date, Dated, Style};
-use linetext::{Line, LineNumbers};
-use writer::buffer::Copied;
-use writer::{Written, buffer};
+use calendar::{Date, Style};
+use linetext::LineNumbers;
+use writer::buffer;
+use refusals::Refusal;
 
 // The letters of a style, `OS`, `NS` and `SV`: the first, and 256 times the second.
 fn style_letters(style: Style) -> u64
@@ -42,23 +42,23 @@ fn numbers_of(date: Date) -> LineNumbers
 }
 
 // The line of an answer.
-pub fn line_of(answer: Dated) -> Line
+pub fn line_of(answer: Result<Date, Refusal>) -> Result<LineNumbers, Refusal>
     ensures { result ≡ line_of answer }
 {
     match answer {
-        Dated::Date(date) => Line::Numbers(numbers_of(date)),
-        Dated::Refused(why) => Line::Refusal(why),
+        Ok(date) => Ok(numbers_of(date)),
+        Err(why) => Err(why),
     }
 }
 
 const HEADER: [u8; 41] = *b"jdn\tyear\tordinal\tmonth\tday\tweekday\tstyle\n";
 
 // The header, from `at` on.
-pub fn put_header(out: &mut [u8], at: usize) -> Written
+pub fn put_header(out: &mut [u8], at: usize) -> Result<usize, Refusal>
     ensures { PutsHeader out.old at out.new result }
 {
     match buffer::copy_text(out, at, &HEADER) {
-        Copied::To(end) => Written::Done(end),
-        Copied::NoRoom => Written::Refused(refusals::refusal_with(18, 41)),
+        Some(end) => Ok(end),
+        None => Err(refusals::refusal_with(18, 41)),
     }
 }

@@ -1,11 +1,10 @@
 -- What the proofs need: which bytes go on in a field, how the beginning of a record grows, and how it ends.
-use Rattle.std.specs.Prelude.{ℕ, zero, suc, ◌+◌, ◌≤◌, ◌<◌, min, ◌≡◌, refl, Bool, true, false, List, [], ◌∷◌, ◌++◌, length, take, drop, get_or}
+use Rattle.std.specs.Prelude.{ℕ, zero, suc, ◌+◌, ◌≤◌, ◌<◌, min, ◌≡◌, refl, Bool, true, false, List, [], ◌∷◌, ◌++◌, length, take, drop, get_or, Some}
 use Rattle.std.proofs.Common.{sym, ◌∙◌, ap, ap₂, subst, true≢false, append_assoc, append-nil, ⊎_elim, add-zero, arith, length-append, take-append-drop, drop_of_length-le, drop-cons, take-add, take_at, take_all, length-take-le}
 use Rattle.whole.specs.Text.{newline}
 use Rattle.whole.specs.Tests.{lt_or_ge}
 use Rattle.commatext.specs.declared.Found.{Found}
 use Rattle.commatext.specs.declared.Next.{Next}
-use Rattle.commatext.specs.declared.Usual.{Usual}
 use Rattle.commatext.specs.Grammar.{comma, quote, return, TextData, QuotedByte, NonEscaped, Quoted, Field, Record, LineEnd, longest_record}
 use Rattle.commatext.specs.Contents.{Where, Fields, Begun, Outside, NoLineEnd, Faulty}
 use Rattle.commatext.specs.Promise.{Closes, Open}
@@ -461,7 +460,7 @@ ends_quoted {s} {from} {end} q a h e =
       within = omega arith;
     }
 
-pub usual_found : {ends : Bool} {s : List ℕ} {c e n : ℕ} → EndsUsual s 0 c → c < length s → get_or s c 0 ≡ comma → EndsUsual s (c + 1) e → e ≤ longest_record → NextIs ends e (drop e s) (Next.Ends n) → FindsUsual ends s (Usual.Pair c e n)
+pub usual_found : {ends : Bool} {s : List ℕ} {c e n : ℕ} → EndsUsual s 0 c → c < length s → get_or s c 0 ≡ comma → EndsUsual s (c + 1) e → e ≤ longest_record → NextIs ends e (drop e s) (Next.Ends n) → FindsUsual ends s (Some (c, e, n))
 usual_found {ends} {s} {c} {e} a h d b k x =
     let w : Within s e = record { inside = b.within; short = k } in
     FindsUsual.pair (PairOf.pair a.field b.field (a.offset ∙ omega arith) w taken (closes w refl x))

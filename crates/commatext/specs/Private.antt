@@ -1,11 +1,10 @@
 -- What the private functions say: of a byte, of a run of bytes, of what comes next, and of the two readings, which say what they found in whatever
 -- record they were handed.
-use Rattle.std.specs.Prelude.{ℕ, zero, suc, ◌+◌, ◌≤◌, ◌<◌, ◌≡◌, Bool, true, false, List, [], ◌∷◌, ◌++◌, length, take, drop, get_or, eqb}
+use Rattle.std.specs.Prelude.{ℕ, zero, suc, ◌+◌, ◌≤◌, ◌<◌, ◌≡◌, Bool, true, false, List, [], ◌∷◌, ◌++◌, length, take, drop, get_or, eqb, Option, Some, None}
 use Rattle.digits.specs.Promise.{pick}
 use Rattle.writer.specs.Laws.{PutText}
 use Rattle.commatext.specs.declared.Found.{Found}
 use Rattle.commatext.specs.declared.Next.{Next}
-use Rattle.commatext.specs.declared.Usual.{Usual}
 use Rattle.commatext.specs.Grammar.{comma, quote, return, TextData, QuotedByte, NonEscaped, Quoted, Field, Record, LineEnd, longest_record}
 use Rattle.commatext.specs.Contents.{Where, Fields, Begun, NoLineEnd, Faulty}
 use Rattle.commatext.specs.Promise.{Closes, Open, line_of}
@@ -125,9 +124,9 @@ pub record QuoteAt (s : List ℕ) (from : ℕ) : Type 0 where
   pub is : get_or s from 0 ≡ quote
 
 -- a record of two of them; of any other nothing is said
-pub data FindsUsual (ends : Bool) (s : List ℕ) : Usual → Type 0 where
-  pair : {c e n : ℕ} → PairOf UsualField ends s c e n → FindsUsual ends s (Usual.Pair c e n)
-  other : FindsUsual ends s Usual.Other
+pub data FindsUsual (ends : Bool) (s : List ℕ) : Option (ℕ × ℕ × ℕ) → Type 0 where
+  pair : {c e n : ℕ} → PairOf UsualField ends s c e n → FindsUsual ends s (Some (c, e, n))
+  other : FindsUsual ends s None
 
 -- ---- a field put into a buffer as it is unquoted, and two of them as a line
 

@@ -1,15 +1,13 @@
 -- What the proofs of `unquote` need: how a quoted field is taken byte by byte, and how two fields become a line.
-use Rattle.std.specs.Prelude.{ℕ, suc, ◌+◌, ◌-◌, ◌≤◌, ◌<◌, ◌≡◌, refl, Bool, true, false, List, [], ◌∷◌, ◌++◌, length, take, drop, get_or, set, eqb}
+use Rattle.std.specs.Prelude.{ℕ, suc, ◌+◌, ◌-◌, ◌≤◌, ◌<◌, ◌≡◌, refl, Bool, true, false, List, [], ◌∷◌, ◌++◌, length, take, drop, get_or, set, eqb, Some, None}
 use Rattle.std.proofs.Common.{sym, ◌∙◌, ap, ap₂, subst, append_assoc, append-nil, zero-add, arith, length-append, length-drop, length-take, length-set, take-append-drop, drop-cons, drop-drop, take_at, drop_at, take-take, length-take-le, eq-eqb, ne_eqb}
 use Rattle.whole.specs.Text.{tab}
 use Rattle.digits.specs.Promise.{pick}
 use Rattle.writer.specs.Promise.{put, Copies}
-use Rattle.writer.specs.declared.buffer.Copied.{Copied}
 use Rattle.writer.specs.Laws.{PutText}
 use Rattle.writer.proofs.PutLaws.{put_none, put_then, put_byte, put_on, length_put}
 use Rattle.commatext.specs.declared.Found.{Found}
 use Rattle.commatext.specs.declared.Scan.{Scan}
-use Rattle.commatext.specs.declared.Usual.{Usual}
 use Rattle.commatext.specs.Grammar.{comma, quote, QuotedByte, NonEscaped, Quoted, Field, Record, longest_record}
 use Rattle.commatext.specs.Contents.{Faulty}
 use Rattle.commatext.specs.Promise.{line_of, Scans}
@@ -131,10 +129,10 @@ unquoting_done {l} {b₀} {at} {b} {i} {n} u h =
 
 -- ---- a field, quoted or not
 
-pub copied_plain : {l b : List ℕ} {at : ℕ} {b' : List ℕ} {i : ℕ} → Copies l b at b' (Copied.To i) → PutText b at l b' i
+pub copied_plain : {l b : List ℕ} {at : ℕ} {b' : List ℕ} {i : ℕ} → Copies l b at b' (Some i) → PutText b at l b' i
 copied_plain (Copies.copied h) = record { is = refl; offset = refl }
 
-pub copied_room : {l b : List ℕ} {at : ℕ} {b' : List ℕ} → at + length l ≤ length b → Copies l b at b' Copied.NoRoom → ⊥
+pub copied_room : {l b : List ℕ} {at : ℕ} {b' : List ℕ} → at + length l ≤ length b → Copies l b at b' None → ⊥
 copied_room h (Copies.no_room k) = omega arith
 
 pub puts_quoted : {l b : List ℕ} {at : ℕ} {b' : List ℕ} {r : ℕ} → get_or l 0 0 ≡ quote → PutsQuoted l b at b' r → PutsField Field l b at b' r
@@ -175,7 +173,7 @@ scans_pair {ends = ends} {s} {b} {b'} {n = n} {r} is (PairOf.pair {l} {m} {f} {g
 pub the_pair : {ends : Bool} {s : List ℕ} {c e n : ℕ} → Finds ends s (Found.Pair c e n) → PairOf Field ends s c e n
 the_pair (Finds.pair p) = p
 
-pub the_usual : {ends : Bool} {s : List ℕ} {c e n : ℕ} → FindsUsual ends s (Usual.Pair c e n) → PairOf UsualField ends s c e n
+pub the_usual : {ends : Bool} {s : List ℕ} {c e n : ℕ} → FindsUsual ends s (Some (c, e, n)) → PairOf UsualField ends s c e n
 the_usual (FindsUsual.pair p) = p
 
 pub scans_any : {ends : Bool} {s b b' : List ℕ} {c e n r : ℕ} → Finds ends s (Found.Pair c e n) → PutsLine Field s c e b b' r → Scans ends s b b' (Scan.Entry r n)
@@ -189,7 +187,7 @@ usual_field : (l f : List ℕ) → UsualField l f → Field l f
 usual_field l f (UsualField.plain q) = Field.non_escaped q
 usual_field l f (UsualField.quoted q) = Field.escaped (quoted_text q)
 
-pub scans_usual : {ends : Bool} {s b b' : List ℕ} {c e n r : ℕ} → FindsUsual ends s (Usual.Pair c e n) → PutsLine UsualField s c e b b' r → Scans ends s b b' (Scan.Entry r n)
+pub scans_usual : {ends : Bool} {s b b' : List ℕ} {c e n r : ℕ} → FindsUsual ends s (Some (c, e, n)) → PutsLine UsualField s c e b b' r → Scans ends s b b' (Scan.Entry r n)
 scans_usual p q = scans_pair usual_field (the_usual p) q
 
 module _ {ends : Bool} {s b : List ℕ} where

@@ -282,13 +282,6 @@ fn inside_quotes(
 
 // ---- the usual record: two fields, each of text, or of text in quotes
 
-#[derive(Clone, Copy)]
-enum Usual {
-    // The comma between the fields, the offset after them, and that after the line end.
-    Pair(usize, usize, usize),
-    Other,
-}
-
 // Where a usual field ends, which begins at an offset; of any other quoted field nothing is taken.
 fn usual_end(s: &[u8], from: usize) -> usize
     requires { from ≤ length s.now }
@@ -317,23 +310,23 @@ fn quoted_end(s: &[u8], from: usize) -> usize
     from
 }
 
-fn usual_pair(s: &[u8], ends: bool) -> Usual
+fn usual_pair(s: &[u8], ends: bool) -> Option<(usize, usize, usize)>
     ensures { FindsUsual ends s.now result }
 {
     let comma = usual_end(s, 0);
     if comma == s.len() {
-        return Usual::Other;
+        return None;
     }
     if s[comma] == b',' {
         let end = usual_end(s, comma + 1);
         if LONGEST_RECORD < end {
-            return Usual::Other;
+            return None;
         }
         if let Next::Ends(next) = next_outside(s, ends, end) {
-            return Usual::Pair(comma, end, next);
+            return Some((comma, end, next));
         }
     }
-    Usual::Other
+    None
 }
 
 // ---- any record
@@ -342,7 +335,7 @@ fn usual_pair(s: &[u8], ends: bool) -> Usual
 pub fn read_record(s: &[u8], ends: bool, line: &mut [u8; LONGEST_RECORD]) -> Scan
     ensures { Scans ends s.now line.old line.new result }
 {
-    if let Usual::Pair(comma, end, next) = usual_pair(s, ends) {
+    if let Some((comma, end, next)) = usual_pair(s, ends) {
         let size = put_usual_line(s, comma, end, line);
         return Scan::Entry(size, next);
     }

@@ -6,7 +6,6 @@ ghost use Rattle.commatext.specs.Private.{bytes_of, UsualField, PutsField, PutsQ
 ghost use Rattle.writer.specs.Laws.{PutText};
 
 use writer::buffer;
-use writer::buffer::Copied;
 
 // How many bytes of a quoted field stand for one that it holds: two for a quote.
 fn bytes_of(b: u8) -> usize
@@ -39,8 +38,8 @@ fn put_plain(field: &[u8], line: &mut [u8], at: usize) -> usize
     ensures { PutText line.old at field.now line.new result }
 {
     match buffer::copy_text(line, at, field) {
-        Copied::To(end) => end,
-        Copied::NoRoom => at,
+        Some(end) => end,
+        None => at,
     }
 }
 

@@ -1,19 +1,19 @@
 -- What is written of a date belongs to the grammar of date texts, and is read back.
 -- Assumes nothing.
-use Rattle.std.specs.Prelude.{ℕ, ◌<◌, ◌^◌, ◌≡◌, List, take, ℤ, nat_abs}
+use Rattle.std.specs.Prelude.{ℕ, ◌<◌, ◌^◌, ◌≡◌, List, take, ℤ, nat_abs, Result, Ok}
 use Rattle.std.proofs.Common.{arith, SFits}
 use Rattle.std.specs.Int.{w32}
 use Rattle.numbertext.specs.Numerals.{Unsigned, Signed}
 use Rattle.writer.specs.Promise.{Decimal, WholeDecimal, YmdDecimal, WriteYmd}
 use Rattle.writer.specs.Laws.{has_width, ymd_text}
 use Rattle.writer.specs.Theorems.{written_front}
-use Rattle.writer.specs.declared.Written.{Written}
 use Rattle.datetext.specs.Grammar.{YmdText}
 use Rattle.days.specs.DayByDay.{Month}
 use Rattle.datetext.specs.Promise.{ReadDate}
 use Rattle.datetext.proofs.One.{read_one}
 use Rattle.datetext.specs.Grammar.{Belongs}
 use Rattle.datetext.specs.declared.Text.{Text}
+use Rattle.refusals.specs.declared.Refusal.{Refusal}
 
 unsigned_text : {p : List ℕ} {n : ℕ} → Decimal p n → n < 2 ^ 32 → Unsigned p n
 unsigned_text d h = record { numeral = d.numeral; fits = h }
@@ -39,10 +39,10 @@ module _ {t : List ℕ} {y : ℤ} {m d : ℕ} (w : YmdDecimal t y m d) (f : SFit
   written_belongs = Belongs.by_day written_writes.1
 
   -- whoever reads it has the date
-  pub reads_back : {r : Text} → ReadDate t r → (k : ℕ) × (r ≡ Text.Ymd y m d k)
+  pub reads_back : {r : Result Text Refusal} → ReadDate t r → (k : ℕ) × (r ≡ Text.Ymd y m d k)
   reads_back g = let e = written_writes in (e.0, read_one g (ReadDate.ymd_text e.1))
 
 -- so for what `write_ymd` has put at the front of a buffer
-pub round_trip : {y : ℤ} {m d : ℕ} {b b' : List ℕ} {i : ℕ} → SFits w32 y → Month m → d < 2 ^ 32 → WriteYmd y m d b b' (Written.Done i)
-    → {r : Text} → ReadDate (take i b') r → (k : ℕ) × (r ≡ Text.Ymd y m d k)
+pub round_trip : {y : ℤ} {m d : ℕ} {b b' : List ℕ} {i : ℕ} → SFits w32 y → Month m → d < 2 ^ 32 → WriteYmd y m d b b' (Ok i)
+    → {r : Result Text Refusal} → ReadDate (take i b') r → (k : ℕ) × (r ≡ Text.Ymd y m d k)
 round_trip f mo h w g = reads_back (written_front w) f mo h g

@@ -1,6 +1,6 @@
 -- Demand 3: `EveryText` says it, and it holds of any timeline that rises (`every_text`) and of every accepted calendar (`every_calendar`).
 -- Assumes nothing.
-use Rattle.std.specs.Prelude.{◌≡◌, refl, List, ℕ, ◌≤◌, ℤ, pos, negsuc, ◌≤ℤ◌, length, take}
+use Rattle.std.specs.Prelude.{◌≡◌, refl, List, ℕ, ◌≤◌, ℤ, pos, negsuc, ◌≤ℤ◌, length, take, Result, Ok, Err}
 use Rattle.std.proofs.Common.{sym, ◌∙◌, ap, subst, ⊎_elim, arith}
 use Rattle.days.specs.DayByDay.{Label, label, Timeline, labels_in, OfYear, Place, Is32Bit, Rising, Month}
 use Rattle.days.proofs.RisingLabels.{once, nth_one}
@@ -8,8 +8,6 @@ use Rattle.days.proofs.RisingTimelines.{rising_rises, timeline_proper, timeline_
 use Rattle.days.proofs.AcceptedYears.{year_from, year_to, year_short, accepted_rising}
 use Rattle.calendar.specs.declared.Calendar.{Calendar}
 use Rattle.calendar.specs.declared.Date.{Date}
-use Rattle.calendar.specs.declared.Dated.{Dated}
-use Rattle.calendar.specs.declared.Dated.TheVariants as Dated'
 use Rattle.calendar.specs.Calendars.{timeline, Accepted, IsRecordIn, IsRecord, Genuine}
 use Rattle.calendar.specs.Rows.{passes}
 use Rattle.calendar.specs.RowLaws.{passed}
@@ -19,25 +17,25 @@ use Rattle.calendar.specs.Theorems.{IsRecordOfIn, ymd_in_accepts, ymd_in_only, o
 use Rattle.calendar.specs.Answered.{ymd_answered, ordinal_answered}
 use Rattle.writer.specs.Promise.{YmdDecimal}
 use Rattle.writer.specs.Theorems as W
-use Rattle.writer.specs.declared.Written.{Written}
 use Rattle.datetext.specs.Grammar.{OrdinalText, YmdText, Belongs}
 use Rattle.datetext.proofs.Theorems as T
 use Rattle.dateparse.specs.EveryText.{Says, says_ymd, says_ordinal, EveryText}
 use Rattle.dateparse.specs.ReadBack.{has_text, written_writes}
 use Rattle.dateparse.specs.One.{by_text_one}
 use Rattle.dateparse.specs.Promise.{placed_at, ByTextIn, ByText, by_fault, by_ordinal, by_ymd, ParseDate, WriteDate}
+use Rattle.refusals.specs.declared.Refusal.{Refusal}
 
 -- ---- A text is accepted exactly where a day bears its date
 same_label : {s : List ℕ} {y z : ℤ} {m n d e k j : ℕ} → YmdText s y m d k → YmdText s z n e j → label y m d ≡ label z n e
 same_label {y = y} {z} {m} {n} {d} {e} p q = let (a, b, c, f) = T.one_ymd p q in let w : label y m d ≡ label z n e = cc in w
 
 -- the record of an answer is the same wherever it is placed
-placed_is : (t : Timeline) (c : Calendar) {n : ℤ} (k : ℕ) {w : Dated} → IsRecordOfIn t c n w → IsRecordOfIn t c n (placed_at k w)
+placed_is : (t : Timeline) (c : Calendar) {n : ℤ} (k : ℕ) {w : Result Date Refusal} → IsRecordOfIn t c n w → IsRecordOfIn t c n (placed_at k w)
 placed_is t c k (d, e, i) = (d, ap (placed_at k) e, i)
 
-placed_date : (k : ℕ) {b : Date} (w : Dated) → placed_at k w ≡ Dated'.Date b → w ≡ Dated'.Date b
-placed_date k (Dated'.Date d) e = e
-placed_date k (Dated'.Refused f) e = let z : ◌≡◌ {A = ℕ} 0 1 = cc in absurd (never z)
+placed_date : (k : ℕ) {b : Date} (w : Result Date Refusal) → placed_at k w ≡ Ok b → w ≡ Ok b
+placed_date k (Ok d) e = e
+placed_date k (Err f) e = let z : ◌≡◌ {A = ℕ} 0 1 = cc in absurd (never z)
   where
     never : ◌≡◌ {A = ℕ} 0 1 → ⊥
     never z = omega arith
@@ -53,7 +51,7 @@ module _ (t : Timeline) (r : Rising t) (c : Calendar) {s : List ℕ} where
       nth_one u h (subst (λ (z : ℤ). OfYear z (labels_in t k)) (sym e) v) (subst (λ (z : ℤ). Place (λ i. OfYear z (labels_in t i)) k o) (sym e) (subst (Place (λ i. OfYear z (labels_in t i)) k) (sym f) g))
 
   -- where a 32-bit day bears the date that a text writes, the text is accepted, with the record of that day
-  pub accepts : {n : ℤ} {a : Dated} → Is32Bit n → Says t s n → ByTextIn t c s a → IsRecordOfIn t c n a
+  pub accepts : {n : ℤ} {a : Result Date Refusal} → Is32Bit n → Says t s n → ByTextIn t c s a → IsRecordOfIn t c n a
   accepts {n} f (says_ymd p e) (by_fault q) = absurd (T.never_both (Belongs.by_day p) q)
   accepts {n} f (says_ymd p e) (by_ordinal q g) = absurd (T.one_way q p)
   accepts f (says_ymd p e) (by_ymd {k = k} q g) = placed_is t c k (ymd_in_accepts t c r f (e ∙ same_label p q) g)
@@ -64,7 +62,7 @@ module _ (t : Timeline) (r : Rising t) (c : Calendar) {s : List ℕ} where
   accepts {n} f (says_ordinal p u h) (by_ymd q g) = absurd (T.one_way p q)
 
   -- and only there
-  pub accepted_only : {b : Date} {a : Dated} → a ≡ Dated'.Date b → ByTextIn t c s a → (n : ℤ) × Is32Bit n × Says t s n × IsRecordIn t c n b
+  pub accepted_only : {b : Date} {a : Result Date Refusal} → a ≡ Ok b → ByTextIn t c s a → (n : ℤ) × Is32Bit n × Says t s n × IsRecordIn t c n b
   accepted_only e (by_fault q) = let z : ◌≡◌ {A = ℕ} 0 1 = cc in absurd (never z)
     where
       never : ◌≡◌ {A = ℕ} 0 1 → ⊥
@@ -85,23 +83,23 @@ module _ (t : Timeline) (r : Rising t) (c : Calendar) {n : ℤ} {d : Date} (f : 
   pub day_most : d.day ≤ 31
   day_most = of_day (λ (l : Label). l.day ≤ 31) (timeline_most t n)
 
-  reads_back : {u : List ℕ} {a : Dated} → YmdDecimal u d.year d.month d.day → ByTextIn t c u a → a ≡ Dated'.Date d
+  reads_back : {u : List ℕ} {a : Result Date Refusal} → YmdDecimal u d.year d.month d.day → ByTextIn t c u a → a ≡ Ok d
   reads_back w p =
       let (k, x) = written_writes w (of_day (λ (l : Label). Is32Bit l.year) (r.year_fits n f)) month_is (omega (arith, day_most)) in
-      let (b, e, j) = accepts t r c f (says_ymd x i.label_is) p in e ∙ ap Dated'.Date (record_one j i)
+      let (b, e, j) = accepts t r c f (says_ymd x i.label_is) p in e ∙ ap Ok (record_one j i)
 
 -- ---- Every text has an answer
 module _ (t : Timeline) (r : Rising t) (c : Calendar) where
-  ordinal_text_answered : {s : List ℕ} {y : ℤ} {o k : ℕ} → OrdinalText s y o k → (a : Dated) × ByTextIn t c s a
+  ordinal_text_answered : {s : List ℕ} {y : ℤ} {o k : ℕ} → OrdinalText s y o k → (a : Result Date Refusal) × ByTextIn t c s a
   ordinal_text_answered {y = y} (OrdinalText.ordinal {n = o} p q) = let (a, g) = ordinal_answered t r c y o in (_, by_ordinal (OrdinalText.ordinal p q) g)
 
-  ymd_text_answered : {s : List ℕ} {y : ℤ} {m d k : ℕ} → YmdText s y m d k → (a : Dated) × ByTextIn t c s a
+  ymd_text_answered : {s : List ℕ} {y : ℤ} {m d k : ℕ} → YmdText s y m d k → (a : Result Date Refusal) × ByTextIn t c s a
   ymd_text_answered {y = y} (YmdText.ymd {m} {d} p q mo i) = let (a, g) = ymd_answered t r c y m d in (_, by_ymd (YmdText.ymd p q mo i) g)
 
-  text_answered : (s : List ℕ) → (a : Dated) × ByTextIn t c s a
-  text_answered s = ⊎_elim by (λ (f, q). (Dated'.Refused f, by_fault q)) (T.belongs_or_faulty s)
+  text_answered : (s : List ℕ) → (a : Result Date Refusal) × ByTextIn t c s a
+  text_answered s = ⊎_elim by (λ (f, q). (Err f, by_fault q)) (T.belongs_or_faulty s)
     where
-      by : Belongs s → (a : Dated) × ByTextIn t c s a
+      by : Belongs s → (a : Result Date Refusal) × ByTextIn t c s a
       by (Belongs.by_ordinal p) = ordinal_text_answered p
       by (Belongs.by_day p) = ymd_text_answered p
 
@@ -150,6 +148,6 @@ fourteen c acc {n} {d} f i w = W.fourteen w (year_short from to) (month_is (time
     to = of_day (timeline c) (accepted_rising acc) c f i (λ (l : Label). l.year ≤ℤ pos 5_874_898) (year_to acc f)
 
 -- so for what write_date has put at the front of a buffer
-pub written_reads_back : (d : Date) → Genuine d → Is32Bit d.jdn → {b b' : List ℕ} {i : ℕ} {a : Dated} → WriteDate d b (b', Written.Done i)
-    → ParseDate d.calendar (take i b') a → a ≡ Dated'.Date d
+pub written_reads_back : (d : Date) → Genuine d → Is32Bit d.jdn → {b b' : List ℕ} {i : ℕ} {a : Result Date Refusal} → WriteDate d b (b', Ok i)
+    → ParseDate d.calendar (take i b') a → a ≡ Ok d
 written_reads_back d g f (passes x w) q = (every_calendar d.calendar g.accepted).reads_back f g.is_record (W.written_front w) q

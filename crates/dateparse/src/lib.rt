@@ -7,17 +7,16 @@
 ghost use Rattle.std.specs.Prelude.{◌≡◌};
 ghost use Rattle.dateparse.specs.Promise.{placed_at, ParseDate, WriteDate};
 
-use calendar::{Calendar, Date, Dated, Refusal, Switch};
+use calendar::{Calendar, Date, Refusal};
 use datetext::Text;
-use writer::Written;
 
-pub fn parse_date(calendar: Calendar, text: &[u8]) -> Dated
+pub fn parse_date(calendar: Calendar, text: &[u8]) -> Result<Date, Refusal>
     ensures { ParseDate calendar text.now result }
 {
     match calendar::switch_of(calendar) {
-        Switch::MadeUp => Dated::Refused(calendar::refusal_of(16, 0)),
-        Switch::At(_) => match datetext::read_date(text) {
-            Text::Refused(why) => Dated::Refused(why),
+        Err(_) => Err(calendar::refusal_of(16, 0)),
+        Ok(_) => match datetext::read_date(text) {
+            Err(why) => Err(why),
             Text::Ordinal {
                 year,
                 ordinal,
@@ -34,16 +33,16 @@ pub fn parse_date(calendar: Calendar, text: &[u8]) -> Dated
 }
 
 // A refusal gets the place of the field that it is about. 7 is about the date and not about a field.
-fn placed(answer: Dated, place: usize) -> Dated
+fn placed(answer: Result<Date, Refusal>, place: usize) -> Result<Date, Refusal>
     ensures { result ≡ placed_at place answer }
 {
     match answer {
-        Dated::Date(date) => Dated::Date(date),
-        Dated::Refused(why) => {
+        Ok(date) => Ok(date),
+        Err(why) => {
             if why.number == 7 {
-                return Dated::Refused(why);
+                return Err(why);
             }
-            Dated::Refused(Refusal {
+            Err(Refusal {
                 number: why.number,
                 place: place,
                 value: why.value,
@@ -53,11 +52,11 @@ fn placed(answer: Dated, place: usize) -> Dated
 }
 
 // The year-month-day text of a date at the front of the buffer; the answer tells its length.
-pub fn write_date(date: Date, buf: &mut [u8]) -> Written
+pub fn write_date(date: Date, buf: &mut [u8]) -> Result<usize, Refusal>
     ensures { WriteDate date buf.old (buf.new, result) }
 {
     if date.is_genuine() {
         return writer::write_ymd(buf, date.year, date.month, date.day);
     }
-    Written::Refused(calendar::refusal_of(16, 0))
+    Err(calendar::refusal_of(16, 0))
 }

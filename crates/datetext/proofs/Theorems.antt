@@ -1,7 +1,7 @@
 -- THE THEOREMS ON THE TEXT OF A DATE.
 -- A text belongs to the grammar or has a fault, never both; it writes one date at most, in one of the two ways; and it has one fault at most.
 -- Assumes nothing.
-use Rattle.std.specs.Prelude.{ℕ, ◌≡◌, List, ◌⊎◌, ℤ}
+use Rattle.std.specs.Prelude.{ℕ, ◌≡◌, List, ◌⊎◌, ℤ, Result}
 use Rattle.std.proofs.Common.{inl, inr, arith}
 use Rattle.refusals.specs.declared.Refusal.{Refusal}
 use Rattle.datetext.specs.Grammar.{OrdinalText, YmdText, Fault, Belongs}
@@ -15,7 +15,7 @@ use Rattle.datetext.proofs.One.{read_one}
 pub belongs_or_faulty : (s : List ℕ) → Belongs s ⊎ ((f : Refusal) × Fault s f)
 belongs_or_faulty s = by (sound s)
   where
-    by : {r : Text} → ReadDate s r → Belongs s ⊎ ((f : Refusal) × Fault s f)
+    by : {r : Result Text Refusal} → ReadDate s r → Belongs s ⊎ ((f : Refusal) × Fault s f)
     by (ReadDate.ordinal_text h) = inl (Belongs.by_ordinal h)
     by (ReadDate.ymd_text h) = inl (Belongs.by_day h)
     by (ReadDate.faulty {f} h) = inr (f, h)

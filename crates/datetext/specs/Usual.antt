@@ -1,7 +1,7 @@
 -- The usual text, a year of three or four digits, a month and a day of one or two: each part, once its digits are seen, takes what `Reading` computes a
 -- step further.
 -- Assumes nothing.
-use Rattle.std.specs.Prelude.{ℕ, ◌+◌, ◌*◌, ◌≤◌, ◌<◌, ◌^◌, ◌≡◌, refl, true, List, length, get_or, ℤ, pos, leb}
+use Rattle.std.specs.Prelude.{ℕ, ◌+◌, ◌*◌, ◌≤◌, ◌<◌, ◌^◌, ◌≡◌, refl, true, List, length, get_or, ℤ, pos, leb, Ok, Option, Some, None}
 use Rattle.std.proofs.Common.{sym, ◌∙◌, subst, arith, lt-ltb, leb-true}
 use Rattle.std.proofs.Math.Path.{ap}
 use Rattle.whole.specs.Biased.{unbias_above}
@@ -12,21 +12,18 @@ use Rattle.digits.specs.Runs.{pick_yes, both, front_end}
 use Rattle.digits.specs.Few.{DigitIs, PairIs, pair_seen, digit_front, pair_front, dash_front}
 use Rattle.numbertext.specs.Reading.{the_number, the_signed}
 use Rattle.numbertext.specs.Places.{dash_yes, end_reached, number_of, signed_of_lem}
-use Rattle.numbertext.specs.declared.Number.{Number}
-use Rattle.numbertext.specs.declared.SignedNumber.{SignedNumber}
 use Rattle.datetext.specs.Reading.{is_month_value, to_ymd, after_day, after_month_value, after_second, after_dash_value, after_year, read_text}
 use Rattle.datetext.specs.declared.Text.{Text}
-use Rattle.datetext.specs.declared.usual.Part.{Part}
 
 -- P holds of a part that is found; of one that is not, nothing is said
-pub data IfAt (P : ℕ → ℕ → Type 0) : Part → Type 0 where
-  found : {n next : ℕ} → P n next → IfAt P (Part.At n next)
-  other : IfAt P Part.Other
+pub data IfAt (P : ℕ → ℕ → Type 0) : Option (ℕ × ℕ) → Type 0 where
+  found : {n next : ℕ} → P n next → IfAt P (Some (n, next))
+  other : IfAt P None
 
-pub if_at : {P : ℕ → ℕ → Type 0} {n next : ℕ} → IfAt P (Part.At n next) → P n next
+pub if_at : {P : ℕ → ℕ → Type 0} {n next : ℕ} → IfAt P (Some (n, next)) → P n next
 if_at (found h) = h
 
-pub nothing_found : {P : ℕ → ℕ → Type 0} → IfAt P Part.Other
+pub nothing_found : {P : ℕ → ℕ → Type 0} → IfAt P None
 nothing_found = other
 
 -- ---- what the text comes to once the year, the month or the day is read: n is the number, and `next` the place after it and its dash
@@ -45,11 +42,11 @@ pub record DayRead (s : List ℕ) (at n : ℕ) : Type 0 where
 
 -- ---- a year or a month that ends at k, where the dash stands
 module _ (s : List ℕ) (k : ℕ) (h : k < length s) (d : get_or s k 0 ≡ dash) where
-  year_by : {n : ℕ} → n < 10000 → the_signed s 0 ≡ SignedNumber.Value (pos n) k → YearRead s n (k + 1)
+  year_by : {n : ℕ} → n < 10000 → the_signed s 0 ≡ Ok (pos n, k) → YearRead s n (k + 1)
   unfolding read_text
   year_by {n} small e = record { small = small; within = omega arith; read = ap (after_year s) e ∙ ap (after_dash_value s (pos n)) (dash_yes s k h d) }
 
-  month_by : {at m next : ℕ} → next ≡ k + 1 → is_month_value m ≡ true → the_number s at ≡ Number.Value m k → MonthRead s at m next
+  month_by : {at m next : ℕ} → next ≡ k + 1 → is_month_value m ≡ true → the_number s at ≡ Ok (m, k) → MonthRead s at m next
   month_by {at} {m} e i f =
       subst (MonthRead s at m) (sym e)
       (record {
@@ -107,7 +104,7 @@ module _ (s : List ℕ) {at m : ℕ} (i : is_month_value m ≡ true) where
 
 -- ---- days, which end the text
 
-day_by : (s : List ℕ) {at n next : ℕ} → next ≡ length s → the_number s at ≡ Number.Value n next → DayRead s at n
+day_by : (s : List ℕ) {at n next : ℕ} → next ≡ length s → the_number s at ≡ Ok (n, next) → DayRead s at n
 day_by s {at} {n} {next} e f = record { read = λ y m. ap (after_day s y m at) f ∙ ap (to_ymd y m n at) (end_reached s next (omega arith) (omega arith)) }
 
 module _ (s : List ℕ) {at n : ℕ} where

@@ -10,7 +10,6 @@ ghost use Rattle.numbertext.specs.Reading.{the_number, the_dash};
 ghost use Rattle.datetext.specs.Promise.{ReadDate};
 ghost use Rattle.datetext.specs.Reading.{is_month_value, after_day, after_month_value, after_second, after_dash_value};
 
-use numbertext::{Dash, End, Number, SignedNumber};
 use refusals::Refusal;
 pub use usual::read_date;
 
@@ -34,14 +33,14 @@ pub enum Text {
 // ---- reading: a part at a time, each going on from the part before it, for any year or month that it is told
 
 // The day is to stand at `at`.
-fn day_on(text: &[u8], year: i32, month: u32, at: usize) -> Text
+fn day_on(text: &[u8], year: i32, month: u32, at: usize) -> Result<Text, Refusal>
     ensures { result ≡ after_day text.now year month at (the_number text.now at) }
 {
     match numbertext::number_at(text, at) {
-        Number::Refused(f) => Text::Refused(f),
-        Number::Value(day, next) => match numbertext::end_at(text, next) {
-            End::Refused(f) => Text::Refused(f),
-            End::Reached => Text::Ymd {
+        Err(f) => Err(f),
+        Ok((day, next)) => match numbertext::end_at(text, next) {
+            Err(f) => Err(f),
+            Ok(()) => Text::Ymd {
                 year,
                 month,
                 day,
@@ -52,12 +51,12 @@ fn day_on(text: &[u8], year: i32, month: u32, at: usize) -> Text
 }
 
 // The `-` after the month is to stand at `at`.
-fn month_on(text: &[u8], year: i32, month: u32, at: usize) -> Text
+fn month_on(text: &[u8], year: i32, month: u32, at: usize) -> Result<Text, Refusal>
     ensures { result ≡ after_month_value text.now year month (the_dash text.now at) }
 {
     match numbertext::dash_at(text, at) {
-        Dash::Refused(f) => Text::Refused(f),
-        Dash::Next(next) => day_on(text, year, month, next),
+        Err(f) => Err(f),
+        Ok(next) => day_on(text, year, month, next),
     }
 }
 
@@ -68,17 +67,17 @@ fn is_month(m: u32) -> bool
 }
 
 // The second number is to stand at `at`.
-fn second_on(text: &[u8], year: i32, at: usize) -> Text
+fn second_on(text: &[u8], year: i32, at: usize) -> Result<Text, Refusal>
     ensures { result ≡ after_second text.now year at (the_number text.now at) }
 {
     match numbertext::number_at(text, at) {
-        Number::Refused(f) => Text::Refused(f),
-        Number::Value(n, next) => {
+        Err(f) => Err(f),
+        Ok((n, next)) => {
             if next < text.len() {
                 if is_month(n) {
                     month_on(text, year, n, next)
                 } else {
-                    Text::Refused(refusals::refusal_at(3, at, n))
+                    Err(refusals::refusal_at(3, at, n))
                 }
             } else {
                 Text::Ordinal {
@@ -92,21 +91,21 @@ fn second_on(text: &[u8], year: i32, at: usize) -> Text
 }
 
 // The `-` after the year is to stand at `at`.
-fn year_on(text: &[u8], year: i32, at: usize) -> Text
+fn year_on(text: &[u8], year: i32, at: usize) -> Result<Text, Refusal>
     ensures { result ≡ after_dash_value text.now year (the_dash text.now at) }
 {
     match numbertext::dash_at(text, at) {
-        Dash::Refused(f) => Text::Refused(f),
-        Dash::Next(next) => second_on(text, year, next),
+        Err(f) => Err(f),
+        Ok(next) => second_on(text, year, next),
     }
 }
 
 // The text part by part, from its front on.
-fn any_date(text: &[u8]) -> Text
+fn any_date(text: &[u8]) -> Result<Text, Refusal>
     ensures { ReadDate text.now result }
 {
     match numbertext::signed_at(text, 0) {
-        SignedNumber::Refused(f) => Text::Refused(f),
-        SignedNumber::Value(year, next) => year_on(text, year, next),
+        Err(f) => Err(f),
+        Ok((year, next)) => year_on(text, year, next),
     }
 }

@@ -8,36 +8,30 @@ ghost use Rattle.datetext.specs.Reading.{after_second};
 ghost use Rattle.datetext.specs.Usual.{IfAt, Hundreds, YearRead, MonthRead, DayRead};
 
 use crate::Text;
-
-// A number that stands where it is looked for, and the place after it, and after the `-` that a year or a month has. `Other` says nothing of a text.
-#[derive(Clone, Copy)]
-enum Part {
-    At(u32, usize),
-    Other,
-}
+use refusals::Refusal;
 
 // The last two digits of the year are to stand at `at`, where a `-` is known to come after them.
 #[tactic(auto, using(crate::specs::Usual::nothing_found))]
-fn year_at(text: &[u8], hundreds: u32, at: usize) -> Part
+fn year_at(text: &[u8], hundreds: u32, at: usize) -> Option<(u32, usize)>
     requires { Hundreds text.now hundreds at }
     ensures { IfAt (YearRead text.now) result }
 {
     if 99 < hundreds {
-        return Part::Other;
+        return None;
     }
     let rest = digits::pair_at(text, at);
     if 99 < rest {
-        return Part::Other;
+        return None;
     }
-    Part::At(hundreds * 100 + rest, at + 3)
+    Some((hundreds * 100 + rest, at + 3))
 }
 
 #[tactic(auto, using(crate::specs::Usual::nothing_found))]
-fn usual_year(text: &[u8]) -> Part
+fn usual_year(text: &[u8]) -> Option<(u32, usize)>
     ensures { IfAt (YearRead text.now) result }
 {
     if text.len() < 5 {
-        return Part::Other;
+        return None;
     }
     if text[4] == b'-' {
         let hundreds = digits::pair_at(text, 0);
@@ -49,35 +43,35 @@ fn usual_year(text: &[u8]) -> Part
             return year_at(text, hundreds, 1);
         }
     }
-    Part::Other
+    None
 }
 
 // The month is to stand at `at`.
 #[tactic(auto, using(crate::specs::Usual::nothing_found))]
-fn usual_month(text: &[u8], at: usize) -> Part
+fn usual_month(text: &[u8], at: usize) -> Option<(u32, usize)>
     requires { at ≤ length text.now }
     ensures { IfAt (MonthRead text.now at) result }
 {
     if text.len() - at < 3 {
-        return Part::Other;
+        return None;
     }
     if text[at + 2] == b'-' {
         let month = digits::pair_at(text, at);
         if crate::is_month(month) {
-            return Part::At(month, at + 3);
+            return Some((month, at + 3));
         }
-        return Part::Other;
+        return None;
     }
     if text[at + 1] == b'-' {
         let month = digits::digit_at(text, at);
         if 9 < month {
-            return Part::Other;
+            return None;
         }
         if crate::is_month(month) {
-            return Part::At(month, at + 2);
+            return Some((month, at + 2));
         }
     }
-    Part::Other
+    None
 }
 
 // The day is to stand at `at` and to end the text: 100 says that it does not.
@@ -100,13 +94,13 @@ fn usual_day(text: &[u8], at: usize) -> u32
 }
 
 // A text that is no usual one from some part on is read part by part from there.
-fn usual_on(text: &[u8], year: i32, at: usize) -> Text
+fn usual_on(text: &[u8], year: i32, at: usize) -> Result<Text, Refusal>
     requires { at ≤ length text.now }
     ensures { result ≡ after_second text.now year at (the_number text.now at) }
 {
     match usual_month(text, at) {
-        Part::Other => crate::second_on(text, year, at),
-        Part::At(month, third) => {
+        None => crate::second_on(text, year, at),
+        Some((month, third)) => {
             let day = usual_day(text, third);
             if day < 100 {
                 Text::Ymd {
@@ -122,11 +116,11 @@ fn usual_on(text: &[u8], year: i32, at: usize) -> Text
     }
 }
 
-pub fn read_date(text: &[u8]) -> Text
+pub fn read_date(text: &[u8]) -> Result<Text, Refusal>
     ensures { ReadDate text.now result }
 {
     match usual_year(text) {
-        Part::Other => crate::any_date(text),
-        Part::At(year, second) => usual_on(text, whole::lowered(2_147_483_648 + year), second),
+        None => crate::any_date(text),
+        Some((year, second)) => usual_on(text, whole::lowered(2_147_483_648 + year), second),
     }
 }

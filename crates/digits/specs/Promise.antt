@@ -1,9 +1,10 @@
 -- What is promised: the digits that stand at a place of a list of bytes, by computing, in the order of the code. `Runs` and `Few` show that this is what
 -- `Numerals` says.
 -- Assumes nothing.
-use Rattle.std.specs.Prelude.{ℕ, ◌+◌, ◌-◌, ◌*◌, Bool, true, false, List, [], ◌∷◌, length, ◌==◌, nat_le, nat_lt, slice_index}
+use Rattle.std.specs.Prelude.{ℕ, ◌+◌, ◌-◌, ◌*◌, Bool, true, false, List, [], ◌∷◌, length, ◌==◌, nat_le, nat_lt, slice_index, Result, Ok, Err}
 use Rattle.digits.specs.Numerals.{value_of}
-use Rattle.digits.specs.declared.Run.{Run}
+use Rattle.digits.specs.declared.NoRun.{NoRun}
+use Rattle.digits.specs.declared.NoRun.TheVariants as NoRun'
 
 abbrev pub pick : {A : Type 0} → Bool → A → A → A
 pick true a b = a
@@ -24,17 +25,17 @@ abbrev pub left_at : ℕ → ℕ → ℕ → List ℕ → ℕ
 left_at limit n at [] = at
 left_at limit n at (b ∷ p) = pick (nat_le (n * 10 + (b - 48)) limit) (left_at limit (n * 10 + (b - 48)) (at + 1) p) at
 
-unfoldable pub run_from : ℕ → ℕ → List ℕ → Run
-run_from limit at [] = Run.Empty
+unfoldable pub run_from : ℕ → ℕ → List ℕ → Result (ℕ × ℕ) NoRun
+run_from limit at [] = Err NoRun'.Empty
 run_from limit at (b ∷ p) =
-    pick (nat_le (value_of (b ∷ p)) limit) (Run.Value (value_of (b ∷ p)) (at + length (b ∷ p))) (Run.Over (left_at limit 0 at (b ∷ p)))
+    pick (nat_le (value_of (b ∷ p)) limit) (Ok (value_of (b ∷ p), at + length (b ∷ p))) (Err (NoRun'.Over (left_at limit 0 at (b ∷ p))))
 
-abbrev pub run_of : ℕ → ℕ → List ℕ → Run
+abbrev pub run_of : ℕ → ℕ → List ℕ → Result (ℕ × ℕ) NoRun
 run_of limit at u = run_from limit at (front u)
 
 -- a run that wrote n and goes from `at` to i
-abbrev pub ends_of : ℕ → ℕ → ℕ → Run
-ends_of n at i = pick (i == at) Run.Empty (Run.Value n i)
+abbrev pub ends_of : ℕ → ℕ → ℕ → Result (ℕ × ℕ) NoRun
+ends_of n at i = pick (i == at) (Err NoRun'.Empty) (Ok (n, i))
 
 -- ---- one digit, and two
 

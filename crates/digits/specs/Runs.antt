@@ -1,12 +1,13 @@
 -- Laws of `Promise`: the digits at the front of a list, a reader that goes along them, and that what it finds is what `Numerals` says, both ways.
 -- Assumes nothing.
-use Rattle.std.specs.Prelude.{◌≡◌, ℕ, zero, suc, ◌+◌, ◌-◌, ◌*◌, ◌<◌, ◌≤◌, Bool, true, false, List, [], ◌∷◌, ◌++◌, length, take, drop, nat_le, slice_index}
+use Rattle.std.specs.Prelude.{◌≡◌, ℕ, zero, suc, ◌+◌, ◌-◌, ◌*◌, ◌<◌, ◌≤◌, Bool, true, false, List, [], ◌∷◌, ◌++◌, length, take, drop, nat_le, slice_index, Result, Ok, Err}
 use Rattle.std.proofs.Math.Path.{refl}
 use Rattle.std.proofs.Common.{sym, ◌∙◌, ap, ap₂, subst, le_refl, add-one, arith, drop_of_length-le, drop-cons}
 use borrow.Author.Tests.{le-leb, lt-leb, leb-true, leb-false, eq-eqb, ne_eqb}
 use Rattle.digits.specs.Numerals.{value_from, value_of, Digit, Digits, Numeral, Leaves, Stops}
 use Rattle.digits.specs.Promise.{pick, is_digit_value, front, left_at, run_from, run_of, ends_of}
-use Rattle.digits.specs.declared.Run.{Run}
+use Rattle.digits.specs.declared.NoRun.{NoRun}
+use Rattle.digits.specs.declared.NoRun.TheVariants as NoRun'
 
 pub pick_yes : {A : Type 0} {t : Bool} (a b : A) → t ≡ true → pick t a b ≡ a
 pick_yes a b e = ap (λ (x : Bool). pick x a b) e
@@ -65,34 +66,34 @@ value_grows n (b ∷ s) = omega (arith, value_grows (n * 10 + (b - 48)) s)
 
 -- which answer a run of the digits p has
 module _ (limit at : ℕ) where
-  pub run_empty : run_from limit at [] ≡ Run.Empty
+  pub run_empty : run_from limit at [] ≡ Err NoRun'.Empty
   unfolding run_from
   run_empty = refl
 
-  pub run_value : (p : List ℕ) → 0 < length p → value_of p ≤ limit → run_from limit at p ≡ Run.Value (value_of p) (at + length p)
+  pub run_value : (p : List ℕ) → 0 < length p → value_of p ≤ limit → run_from limit at p ≡ Ok (value_of p, at + length p)
   unfolding run_from
   run_value [] h k = absurd (omega arith)
   run_value (b ∷ p) h k = pick_yes _ _ (le-leb _ _ k)
 
-  pub run_over : (p : List ℕ) → limit < value_of p → run_from limit at p ≡ Run.Over (left_at limit 0 at p)
+  pub run_over : (p : List ℕ) → limit < value_of p → run_from limit at p ≡ Err (NoRun'.Over (left_at limit 0 at p))
   unfolding run_from
   run_over [] k = absurd (omega arith)
   run_over (b ∷ p) k = pick_no _ _ (lt-leb _ _ k)
 
   -- a value that is told is in the range
-  pub run_within : (p : List ℕ) {n next : ℕ} → run_from limit at p ≡ Run.Value n next → n ≤ limit
+  pub run_within : (p : List ℕ) {n next : ℕ} → run_from limit at p ≡ Ok (n, next) → n ≤ limit
   unfolding run_from
   run_within [] e = let z : ◌≡◌ {A = ℕ} 0 1 = cc in absurd (omega arith)
   run_within (b ∷ p) {n} {next} e = go (nat_le (value_of (b ∷ p)) limit) refl e
     where
-      go : (t : Bool) → nat_le (value_of (b ∷ p)) limit ≡ t → pick t (Run.Value (value_of (b ∷ p)) (at + length (b ∷ p))) (Run.Over (left_at limit 0 at (b ∷ p))) ≡ Run.Value n next → n ≤ limit
+      go : (t : Bool) → nat_le (value_of (b ∷ p)) limit ≡ t → pick t (Ok (value_of (b ∷ p), at + length (b ∷ p))) (Err (NoRun'.Over (left_at limit 0 at (b ∷ p)))) ≡ Ok (n, next) → n ≤ limit
       go true k e = let q : value_of (b ∷ p) ≡ n = cc in omega (arith, leb-true (value_of (b ∷ p)) limit k)
       go false k e = let z : ◌≡◌ {A = ℕ} 0 1 = cc in absurd (omega arith)
 
   pub run_ends : (p : List ℕ) (n i : ℕ) → n ≡ value_of p → i ≡ at + length p → n ≤ limit → ends_of n at i ≡ run_from limit at p
   run_ends [] n i e h k = pick_yes _ _ (eq-eqb i at (omega arith)) ∙ sym run_empty
   run_ends (b ∷ p) n i e h k =
-      pick_no _ _ (ne_eqb i at (λ q. omega arith)) ∙ ap₂ Run.Value e h ∙ sym (run_value (b ∷ p) (omega arith) (subst (λ (x : ℕ). x ≤ limit) e k))
+      pick_no _ _ (ne_eqb i at (λ q. omega arith)) ∙ ap₂ (λ (j k : ℕ). Ok (j, k)) e h ∙ sym (run_value (b ∷ p) (omega arith) (subst (λ (x : ℕ). x ≤ limit) e k))
 
 -- at i, on the way from `at`: what is still to come takes n and i to the number and the place of the whole run
 pub record Along (s : List ℕ) (at limit n i : ℕ) : Type 0 where
@@ -120,9 +121,9 @@ module _ {s : List ℕ} {at limit n i : ℕ} (a : Along s at limit n i) where
       left = sym (pick_yes _ _ (le-leb _ _ k)) ∙ more_left;
     }
 
-    pub along_over : limit < n * 10 + (slice_index s i - 48) → Run.Over i ≡ run_of limit at (drop at s)
+    pub along_over : limit < n * 10 + (slice_index s i - 48) → Err (NoRun'.Over i) ≡ run_of limit at (drop at s)
     along_over k =
-        ap Run.Over (sym (pick_no _ _ (lt-leb _ _ k)) ∙ more_left)
+        ap (λ (k : ℕ). Err (NoRun'.Over k)) (sym (pick_no _ _ (lt-leb _ _ k)) ∙ more_left)
         ∙ sym (run_over limit at (front (drop at s)) (omega (arith, more_value, value_grows (n * 10 + (slice_index s i - 48)) (front (drop (i + 1) s)))))
 
   pub along_done : front (drop i s) ≡ [] → ends_of n at i ≡ run_of limit at (drop at s)
@@ -230,10 +231,10 @@ digits_front {p} {u} (Digits.more {b} {s} d ds) st = front_yes b (s ++ u) (is_di
 
 -- ---- what a run says of the bytes u from `at` on, and that no other run says it
 
-pub data RunView (limit at : ℕ) (u : List ℕ) : Run → Type 0 where
-  empty : Stops u → RunView limit at u Run.Empty
-  value : {p v : List ℕ} {n : ℕ} → u ≡ p ++ v → Numeral p n → Stops v → n ≤ limit → RunView limit at u (Run.Value n (at + length p))
-  over : {p v : List ℕ} {k : ℕ} → u ≡ p ++ v → Digits p → Stops v → Leaves limit p k → RunView limit at u (Run.Over (at + k))
+pub data RunView (limit at : ℕ) (u : List ℕ) : Result (ℕ × ℕ) NoRun → Type 0 where
+  empty : Stops u → RunView limit at u (Err NoRun'.Empty)
+  value : {p v : List ℕ} {n : ℕ} → u ≡ p ++ v → Numeral p n → Stops v → n ≤ limit → RunView limit at u (Ok (n, at + length p))
+  over : {p v : List ℕ} {k : ℕ} → u ≡ p ++ v → Digits p → Stops v → Leaves limit p k → RunView limit at u (Err (NoRun'.Over (at + k)))
 
 pub run_view : (limit at : ℕ) (u : List ℕ) → RunView limit at u (run_of limit at u)
 unfolding run_from
@@ -249,22 +250,22 @@ run_view limit at u = go (front u) refl
         written : Numeral (b ∷ p) (value_of (b ∷ p))
         written = record { some = omega arith; digits = subst Digits e (front_digits u); writes = refl }
 
-        judge : (t : Bool) → nat_le (value_of (b ∷ p)) limit ≡ t → RunView limit at u (pick t (Run.Value (value_of (b ∷ p)) (at + length (b ∷ p))) (Run.Over (left_at limit 0 at (b ∷ p))))
+        judge : (t : Bool) → nat_le (value_of (b ∷ p)) limit ≡ t → RunView limit at u (pick t (Ok (value_of (b ∷ p), at + length (b ∷ p))) (Err (NoRun'.Over (left_at limit 0 at (b ∷ p)))))
         judge true h = RunView.value parted written (back_stops u) (leb-true _ _ h)
         judge false h =
             let (k, l) = leaves_some limit (b ∷ p) (leb-false _ _ h) in
-            subst (λ (i : ℕ). RunView limit at u (Run.Over i)) (sym (leaves_at at l)) (RunView.over parted written.digits (back_stops u) l)
+            subst (λ (i : ℕ). RunView limit at u (Err (NoRun'.Over i))) (sym (leaves_at at l)) (RunView.over parted written.digits (back_stops u) l)
 
 module _ (limit at : ℕ) where
-  pub run_none : {u : List ℕ} → Stops u → run_of limit at u ≡ Run.Empty
+  pub run_none : {u : List ℕ} → Stops u → run_of limit at u ≡ Err NoRun'.Empty
   run_none st = ap (run_from limit at) (stops_front st) ∙ run_empty limit at
 
   module _ {p u : List ℕ} {n : ℕ} (w : Numeral p n) (st : Stops u) where
-    pub run_is : n ≤ limit → run_of limit at (p ++ u) ≡ Run.Value n (at + length p)
+    pub run_is : n ≤ limit → run_of limit at (p ++ u) ≡ Ok (n, at + length p)
     run_is h =
         ap (run_from limit at) (digits_front w.digits st)
         ∙ run_value limit at p w.some (subst (λ (k : ℕ). k ≤ limit) (sym w.writes) h)
-        ∙ ap (λ (k : ℕ). Run.Value k (at + length p)) w.writes
+        ∙ ap (λ (k : ℕ). Ok (k, at + length p)) w.writes
 
-  pub run_leaves : {p u : List ℕ} {k : ℕ} → Digits p → Stops u → Leaves limit p k → run_of limit at (p ++ u) ≡ Run.Over (at + k)
-  run_leaves {p} ds st l = ap (run_from limit at) (digits_front ds st) ∙ run_over limit at p (leaves_large l) ∙ ap Run.Over (leaves_at at l)
+  pub run_leaves : {p u : List ℕ} {k : ℕ} → Digits p → Stops u → Leaves limit p k → run_of limit at (p ++ u) ≡ Err (NoRun'.Over (at + k))
+  run_leaves {p} ds st l = ap (run_from limit at) (digits_front ds st) ∙ run_over limit at p (leaves_large l) ∙ ap (λ (k : ℕ). Err (NoRun'.Over k)) (leaves_at at l)

@@ -15,29 +15,27 @@ fn is_digit(b: u64) -> bool
     48 <= b && b <= 57
 }
 
-// The digits at a place: none; or the number that they write and the place after them; or the place of the first digit at which they leave the range
-// of the field.
+// Why the digits at a place write no number: there are none; or they leave the range of the field, at this place first.
 #[derive(Clone, Copy)]
-pub enum Run {
+pub enum NoRun {
     Empty,
-    Value(u64, usize),
     Over(usize),
 }
 
 // A run that goes from `at` to i and has written n.
-fn run_ends(n: u64, at: usize, i: usize) -> Run
+fn run_ends(n: u64, at: usize, i: usize) -> Result<(u64, usize), NoRun>
     ensures { result ≡ ends_of n at i }
 {
     if i == at {
-        Run::Empty
+        Err(NoRun::Empty)
     } else {
-        Run::Value(n, i)
+        Ok((n, i))
     }
 }
 
-// The range is 0 to `limit`. A number only grows with its digits, so the first digit that takes it out of the range decides.
+// The number that the digits at a place write, and the place after them. The range is 0 to `limit`. A number only grows with its digits, so the first digit that takes it out of the range decides.
 #[tactic(auto, using(crate::specs::Runs::along_over, crate::specs::Runs::along_step, crate::specs::Runs::digit_is))]
-pub fn run_at(s: &[u8], at: usize, limit: u32) -> Run
+pub fn run_at(s: &[u8], at: usize, limit: u32) -> Result<(u64, usize), NoRun>
     ensures { result ≡ run_of limit at (drop at s.now) }
 {
     let most = limit as u64;
@@ -49,7 +47,7 @@ pub fn run_at(s: &[u8], at: usize, limit: u32) -> Run
             let next = i + 1;
             n = n * 10 + (b - 48);
             if most < n {
-                return Run::Over(i);
+                return Err(NoRun::Over(i));
             }
             i = next;
         } else {

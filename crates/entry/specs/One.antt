@@ -1,16 +1,16 @@
 -- A line has one name and one text, and one answer where a name has one.
 -- Assumes nothing.
-use Rattle.std.specs.Prelude.{ℕ, ◌≡◌, refl, List, length}
+use Rattle.std.specs.Prelude.{ℕ, ◌≡◌, refl, List, length, Result}
 use Rattle.std.proofs.Common.{sym, ap, ap₂, subst, arith, length-take, length-drop}
 use Rattle.bytesearch.specs.One.{never, parted_one, never_parted}
 use Rattle.calendar.specs.declared.Calendar.{Calendar}
-use Rattle.calendar.specs.declared.Chosen.{Chosen}
 use Rattle.calendar.specs.RowLaws.{One, if_one}
 use Rattle.dateparse.specs.Promise.{ParseDate}
 use Rattle.dateparse.specs.One.{parse_date_one}
 use Rattle.entry.specs.declared.Parts.{Parts}
 use Rattle.entry.specs.Entry.{Entry, tabbed, bare}
 use Rattle.entry.specs.Promise.{IsParted, Naming, ByEntry, no_name, by_text, LineAnswer}
+use Rattle.refusals.specs.declared.Refusal.{Refusal}
 
 pub entry_same : {l m name text name' text' : List ℕ} → l ≡ m → Entry l name text → Entry m name' text' → (name ≡ name') × (text ≡ text')
 entry_same e (tabbed w) (tabbed v) = parted_one w v e
@@ -29,7 +29,7 @@ parts_one {l} {p} {q} a b =
     ap₂ parts n t
 
 module _ {N : Naming} (names_one : (s : List ℕ) → One (N s)) where
-  named_same : {name name' : List ℕ} {a b : Chosen} → name ≡ name' → N name a → N name' b → a ≡ b
+  named_same : {name name' : List ℕ} {a b : Result Calendar Refusal} → name ≡ name' → N name a → N name' b → a ≡ b
   named_same {name} {a = a} {b} e p q = names_one name a b p (subst (λ (s : List ℕ). N s b) (sym e) q)
 
   by_entry_one : (l : List ℕ) → One (ByEntry N l)

@@ -11,8 +11,9 @@ ghost use Rattle.dateparse.specs.Promise.{ParseDate};
 ghost use Rattle.entry.specs.Promise.{LineAnswer, IsParted};
 ghost use Rattle.entry.specs.Laws.{TextFrom};
 
-use calendar::{Calendar, Chosen, Dated};
+use calendar::Calendar;
 use catalogue::{Links, Names};
+use refusals::Refusal;
 
 // The longest line of a register is the longest line that is read.
 pub const LONGEST_ENTRY: usize = textlines::LONGEST_READ;
@@ -46,14 +47,14 @@ pub fn parts_of(line: &[u8]) -> Parts
 }
 
 // Each part of the line is lent in a function of its own, so that no function has both.
-fn named_before(names: &Names, links: &Links, line: &[u8], tab: usize) -> Chosen
+fn named_before(names: &Names, links: &Links, line: &[u8], tab: usize) -> Result<Calendar, Refusal>
     requires { tab ≤ length line.now }
     ensures { NamesIn (memory names.now links.now) (take tab line.now) result }
 {
     catalogue::named(names, links, &line[..tab])
 }
 
-fn parsed_from(calendar: Calendar, line: &[u8], from: usize) -> Dated
+fn parsed_from(calendar: Calendar, line: &[u8], from: usize) -> Result<Date, Refusal>
     requires { from ≤ length line.now }
     ensures { ParseDate calendar (drop from line.now) result }
 {
@@ -62,15 +63,15 @@ fn parsed_from(calendar: Calendar, line: &[u8], from: usize) -> Dated
 
 // The day that a line names, or why it names none.
 #[tactic(auto, using(crate::specs::Laws::too_long))]
-pub fn line_answer(names: &Names, links: &Links, line: &[u8]) -> Dated
+pub fn line_answer(names: &Names, links: &Links, line: &[u8]) -> Result<Date, Refusal>
     ensures { LineAnswer (NamesIn (memory names.now links.now)) line.now result }
 {
     if LONGEST_ENTRY < line.len() {
-        return Dated::Refused(calendar::refusal_of(20, 0));
+        return Err(calendar::refusal_of(20, 0));
     }
     let tab = bytesearch::by_eights(line, 0, b'\t');
     match named_before(names, links, line, tab) {
-        Chosen::Refused(why) => Dated::Refused(why),
-        Chosen::Calendar(calendar) => parsed_from(calendar, line, text_from(line.len(), tab)),
+        Err(why) => Err(why),
+        Ok(calendar) => parsed_from(calendar, line, text_from(line.len(), tab)),
     }
 }

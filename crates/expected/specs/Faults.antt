@@ -1,6 +1,6 @@
 -- What the first fault of a front says of what could follow it: 8, 10 and 13 may be mended by what follows, any other stays.
 -- Assumes nothing.
-use Rattle.std.specs.Prelude.{ℕ, zero, suc, ◌+◌, ◌<◌, ◌≤◌, ◌≡◌, refl, Bool, true, false, cond, List, [], ◌∷◌, ◌++◌, length, eqb, ℤ, pos, negsuc, nat_abs}
+use Rattle.std.specs.Prelude.{ℕ, zero, suc, ◌+◌, ◌<◌, ◌≤◌, ◌≡◌, refl, Bool, true, false, cond, List, [], ◌∷◌, ◌++◌, length, eqb, ℤ, pos, negsuc, nat_abs, Result, Ok, Err}
 use Rattle.std.proofs.Common.{sym, ap, subst, append_assoc, append-nil, arith, SFits}
 use Rattle.std.specs.Int.{w32}
 use Rattle.whole.specs.Promise.{is_negative_value}
@@ -9,7 +9,6 @@ use Rattle.digits.specs.Numerals.{dash, Stops}
 use Rattle.numbertext.specs.Numerals.{Signed, TooFar, NoNumber, NoSigned, NoDash}
 use Rattle.numbertext.specs.Promise.{SignedFrom, SignedAt, At}
 use Rattle.numbertext.specs.One.{signed_one}
-use Rattle.numbertext.specs.declared.SignedNumber.{SignedNumber}
 use Rattle.datetext.specs.Grammar.{OrdinalText, YmdText, Fault}
 use Rattle.datetext.specs.Promise.{ReadDate}
 use Rattle.datetext.specs.declared.Text.{Text}
@@ -140,17 +139,17 @@ year_written (Signed.with_dash {n = zero} w h) = year_expects (YearSoFar.with_da
 year_written (Signed.with_dash {n = suc k} w h) = year_expects (YearSoFar.with_dash w h)
 
 -- as it is read
-year_read : {u : List ℕ} {r : SignedNumber} → IsYear u → SignedAt u 0 r → (y : ℤ) × Signed u y × (r ≡ SignedNumber.Value y (0 + length u))
+year_read : {u : List ℕ} {r : Result (ℤ × ℕ) Refusal} → IsYear u → SignedAt u 0 r → (y : ℤ) × Signed u y × (r ≡ Ok (y, 0 + length u))
 year_read {u} (y, s) h =
-    (y, s, signed_one h (At.within (omega arith) (subst (λ (x : List ℕ). SignedFrom 0 x (SignedNumber.Value y (0 + length u))) (append-nil u) (SignedFrom.number s Stops.ended))))
+    (y, s, signed_one h (At.within (omega arith) (subst (λ (x : List ℕ). SignedFrom 0 x (Ok (y, 0 + length u))) (append-nil u) (SignedFrom.number s Stops.ended))))
 
-pub year_answer : {u : List ℕ} {r : SignedNumber} {z : ℤ} {n : ℕ} → IsYear u → SignedAt u 0 r → r ≡ SignedNumber.Value z n → Expects u (expects (digits_left_value (year_limit_value z) (nat_abs z)) true false false)
+pub year_answer : {u : List ℕ} {r : Result (ℤ × ℕ) Refusal} {z : ℤ} {n : ℕ} → IsYear u → SignedAt u 0 r → r ≡ Ok (z, n) → Expects u (expects (digits_left_value (year_limit_value z) (nat_abs z)) true false false)
 year_answer {u} {z = z} w h e =
     let (y, s, i) = year_read w h in
     let j : y ≡ z = cc in
     subst (λ (x : ℤ). Expects u (expects (digits_left_value (year_limit_value x) (nat_abs x)) true false false)) j (year_written s)
 
-pub year_refused : {u : List ℕ} {r : SignedNumber} {f : Refusal} → IsYear u → SignedAt u 0 r → r ≡ SignedNumber.Refused f → ⊥
+pub year_refused : {u : List ℕ} {r : Result (ℤ × ℕ) Refusal} {f : Refusal} → IsYear u → SignedAt u 0 r → r ≡ Err f → ⊥
 year_refused w h e = let (y, s, i) = year_read w h in let z : ◌≡◌ {A = ℕ} 0 1 = cc in omega arith
 
 -- a year of 32 bits has a magnitude of at most 2 ^ 31
@@ -174,5 +173,5 @@ ordinal_expects (ReadDate.ordinal_text (OrdinalText.ordinal s m)) t w = second_e
 pub ymd_expects : {u : List ℕ} {y : ℤ} {m d k : ℕ} → ReadDate u (Text.Ymd y m d k) → Expects u (expects (digits_left_value 4_294_967_295 d) false false true)
 ymd_expects (ReadDate.ymd_text (YmdText.ymd s m mo w)) = third_expects s m mo w
 
-pub refused_says : {u : List ℕ} {f : Refusal} → ReadDate u (Text.Refused f) → Says u f.number
+pub refused_says : {u : List ℕ} {f : Refusal} → ReadDate u (Err f) → Says u f.number
 refused_says (ReadDate.faulty h) = says h

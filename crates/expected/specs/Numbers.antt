@@ -1,6 +1,6 @@
 -- A number with a digit more.
 -- Assumes nothing.
-use Rattle.std.specs.Prelude.{ℕ, ◌+◌, ◌-◌, ◌*◌, ◌<◌, ◌≤◌, ◌≡◌, refl, Bool, true, false, cond, List, [], ◌∷◌, ◌++◌, ltb, pos}
+use Rattle.std.specs.Prelude.{ℕ, ◌+◌, ◌-◌, ◌*◌, ◌<◌, ◌≤◌, ◌≡◌, refl, Bool, true, false, cond, List, [], ◌∷◌, ◌++◌, ltb, pos, Result, Err}
 use Rattle.std.proofs.Common.{sym, ◌∙◌, ap, subst, append_assoc, ⊎_elim, arith, length-append, lt-ltb, le-ltb}
 use Rattle.whole.specs.Tests.{lt_or_ge}
 use Rattle.refusals.specs.declared.Refusal.{Refusal}
@@ -8,8 +8,9 @@ use Rattle.refusals.specs.Promise.{refusal}
 use Rattle.digits.specs.Numerals.{value_from, value_of, Digit, Digits, Numeral}
 use Rattle.digits.specs.Promise.{front}
 use Rattle.digits.specs.Runs.{is_digit, front_yes, value_grows, run_over, leaves_large, RunView, run_view}
-use Rattle.digits.specs.declared.Run.{Run}
 use Rattle.numbertext.specs.Numerals.{Unsigned, TooFar}
+use Rattle.digits.specs.declared.NoRun.{NoRun}
+use Rattle.digits.specs.declared.NoRun.TheVariants as NoRun'
 
 -- ---- one digit more
 
@@ -49,7 +50,7 @@ value_on n (b ∷ p) q = value_on (n * 10 + (b - 48)) p q
 over_far : (limit number at : ℕ) (u : List ℕ) → limit < value_of (front u) → (f : Refusal) × TooFar limit number at u f
 over_far limit number at u large = by (run_view limit at u) (_, run_over limit at (front u) large)
   where
-    by : {r : Run} → RunView limit at u r → (i : ℕ) × (r ≡ Run.Over i) → (f : Refusal) × TooFar limit number at u f
+    by : {r : Result (ℕ × ℕ) NoRun} → RunView limit at u r → (i : ℕ) × (r ≡ Err (NoRun'.Over i)) → (f : Refusal) × TooFar limit number at u f
     by (RunView.empty st) (i, e) = let z : ◌≡◌ {A = ℕ} 0 1 = cc in absurd (omega arith)
     by (RunView.value x y z g) (i, e) = let q : ◌≡◌ {A = ℕ} 0 1 = cc in absurd (omega arith)
     by (RunView.over {k = k} x ds st l) e = (refusal number (at + k) (pos 0), subst (λ (y : List ℕ). TooFar limit number at y (refusal number (at + k) (pos 0))) (sym x) (TooFar.too_far ds st l))

@@ -10,7 +10,6 @@ ghost use Rattle.expected.specs.Fronts.{expects};
 ghost use Rattle.expected.specs.Faults.{Says, IsYear, year_limit_value};
 
 use datetext::Text;
-use numbertext::SignedNumber;
 
 // The first so many of the digits `0` to `9`, and whether a `-`, a `+` and the end.
 #[derive(Clone, Copy)]
@@ -54,7 +53,7 @@ fn expected_after(front: &[u8]) -> Expected
             day,
             place,
         } => after_number(day, false),
-        Text::Refused(why) => after_fault(front, why.number),
+        Err(why) => after_fault(front, why.number),
     }
 }
 
@@ -111,8 +110,8 @@ fn after_year(front: &[u8]) -> Expected
     ensures { Expects front.now result }
 {
     match numbertext::signed_at(front, 0) {
-        SignedNumber::Value(year, _) => year_digits(year),
-        SignedNumber::Refused(_) => beginning(0, false),
+        Ok((year, _)) => year_digits(year),
+        Err(_) => beginning(0, false),
     }
 }
 

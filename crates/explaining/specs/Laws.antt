@@ -1,5 +1,5 @@
 -- What the proofs need: of pieces written one after another, and of a pattern filled from its first byte on.
-use Rattle.std.specs.Prelude.{ℕ, zero, suc, ◌+◌, ◌≤◌, ◌<◌, ◌^◌, ◌≡◌, refl, Bool, true, false, cond, ◌||◌, List, [], ◌∷◌, ◌++◌, length, get_or, drop, set, ltb, eqb, ℤ, pos, nat_abs}
+use Rattle.std.specs.Prelude.{ℕ, zero, suc, ◌+◌, ◌≤◌, ◌<◌, ◌^◌, ◌≡◌, refl, Bool, true, false, cond, ◌||◌, List, [], ◌∷◌, ◌++◌, length, get_or, drop, set, ltb, eqb, ℤ, pos, nat_abs, Ok, Err, Some, None}
 use Rattle.std.proofs.Math.Path.{sym, ap}
 use Rattle.std.proofs.Common.{◌∙◌, ap₂, subst, append_assoc, append-nil, ⊎_elim, arith, length-append, drop-cons, drop-drop, to_z-of_z}
 use Rattle.std.proofs.Math.Seq.{drop-nil}
@@ -16,8 +16,6 @@ use Rattle.refusals.specs.declared.Refusal.{Refusal}
 use Rattle.writer.specs.Promise.{Copies, whole_text, Width, WholeDecimal, Puts, Writes, Signs}
 use Rattle.writer.specs.Laws.{PutText, length_digits, width_few, whole_text_lem}
 use Rattle.writer.proofs.PutLaws.{put_on, put_none, put_byte, Copying, copying_on, copying_done}
-use Rattle.writer.specs.declared.buffer.Copied.{Copied}
-use Rattle.writer.specs.declared.Written.{Written}
 use Rattle.linetext.specs.Laws.{Text, text_as, text_then, put_text}
 use Rattle.explaining.specs.Patterns.{shown_byte_value, shown, number_mark, name_mark, text_mark, Filled, number, no_number, the_name, the_text, itself, cost_of, cost}
 use Rattle.reasons.specs.declared.Reason.{Reason}
@@ -27,10 +25,10 @@ use Rattle.explaining.specs.Promise.{longest_paragraph, Room}
 
 -- ---- a text with room for it
 
-pub put_copied : {t o : List ℕ} {at : ℕ} {o' : List ℕ} {i : ℕ} → Copies t o at o' (Copied.To i) → PutText o at t o' i
+pub put_copied : {t o : List ℕ} {at : ℕ} {o' : List ℕ} {i : ℕ} → Copies t o at o' (Some i) → PutText o at t o' i
 put_copied (Copies.copied h) = record { is = refl; offset = refl }
 
-pub never_full : {t o : List ℕ} {at : ℕ} {o' : List ℕ} → at + length t ≤ length o → Copies t o at o' Copied.NoRoom → ⊥
+pub never_full : {t o : List ℕ} {at : ℕ} {o' : List ℕ} → at + length t ≤ length o → Copies t o at o' None → ⊥
 never_full h (Copies.no_room k) = omega arith
 
 -- ---- a byte as it is shown
@@ -76,7 +74,7 @@ abbrev pub Decimals : ℤ → List ℕ → Type 0
 Decimals x t = WholeDecimal t x
 
 pub number_done : (x : ℤ) {neg : Bool} {n : ℕ} {b : List ℕ} {at : ℕ} {b' : List ℕ} {i : ℕ} → neg ≡ is_negative_value x → n ≡ nat_abs x → n < 2 ^ 64
-    → Writes (Signs neg n) b at b' (Written.Done i) → Text (Decimals x) 21 b at b' i
+    → Writes (Signs neg n) b at b' (Ok i) → Text (Decimals x) 21 b at b' i
 number_done x {neg} {n} e a fits (Writes.writes (Signs.signs {k} w) (Puts.done h)) =
     record { text = whole_text neg k n; is = is; short = signs_short neg n k (width_few w fits); put = record { is = refl; offset = refl } }
   where
@@ -85,7 +83,7 @@ number_done x {neg} {n} e a fits (Writes.writes (Signs.signs {k} w) (Puts.done h
         subst (λ (g : Bool). WholeDecimal (whole_text g k n) x) (sym e)
         (subst (λ (j : ℕ). WholeDecimal (whole_text (is_negative_value x) k j) x) (sym a) (whole_text_lem x k (subst (λ (j : ℕ). Width j k) a w)))
 
-pub number_never : {neg : Bool} {n : ℕ} {b : List ℕ} {at : ℕ} {b' : List ℕ} {f : Refusal} → n < 2 ^ 64 → at + 21 ≤ length b → Writes (Signs neg n) b at b' (Written.Refused f) → ⊥
+pub number_never : {neg : Bool} {n : ℕ} {b : List ℕ} {at : ℕ} {b' : List ℕ} {f : Refusal} → n < 2 ^ 64 → at + 21 ≤ length b → Writes (Signs neg n) b at b' (Err f) → ⊥
 number_never {neg} {n} fits h (Writes.writes (Signs.signs {k} w) (Puts.short l)) = omega (arith, signs_short neg n k (width_few w fits))
 
 -- ---- past the end of a list nothing is left

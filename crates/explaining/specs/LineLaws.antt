@@ -1,10 +1,8 @@
 -- What the proofs need: of the parts of a line, and of the paragraph for it.
-use Rattle.std.specs.Prelude.{ℕ, ◌≤◌, ◌<◌, ◌≡◌, List, [], length, take, drop, ℤ, pos}
+use Rattle.std.specs.Prelude.{ℕ, ◌≤◌, ◌<◌, ◌≡◌, List, [], length, take, drop, ℤ, pos, Result, Ok, Err, Some, None}
 use Rattle.std.proofs.Common.{sym, ◌∙◌, ap, subst, arith}
 use Rattle.days.specs.DayByDay.{Timeline}
 use Rattle.writer.specs.Promise.{Copies, Puts, Writes}
-use Rattle.writer.specs.declared.buffer.Copied.{Copied}
-use Rattle.writer.specs.declared.Written.{Written}
 use Rattle.linetext.specs.Laws.{Text, text_as, apart_is}
 use Rattle.entry.specs.Entry.{longest_entry}
 use Rattle.entry.specs.Promise.{Naming, IsParted}
@@ -12,7 +10,6 @@ use Rattle.entry.specs.declared.Parts.{Parts}
 use Rattle.refusals.specs.declared.Refusal.{Refusal}
 use Rattle.refusals.specs.Promise.{refusal}
 use Rattle.calendar.specs.declared.Calendar.{Calendar}
-use Rattle.calendar.specs.declared.Chosen.TheVariants as Chosen'
 use Rattle.reasons.specs.declared.Reason.{Reason}
 use Rattle.reasons.specs.declared.Reason.TheVariants as Reason'
 use Rattle.reasons.specs.Promise.{OnDay, OfYmd, OfOrdinal, OfFault, Explains}
@@ -51,11 +48,11 @@ module _ {N : Naming} {l b b' : List ℕ} {i : ℕ} where
   pub long_paragraph : longest_entry < length l → Text (Is long_line) longest_paragraph b 0 b' i → Text (Paragraph N l) longest_paragraph b 0 b' i
   long_paragraph h t = paragraph (text_as t (λ u e. subst (Explained N l) (sym e) (Explained.too_long h)) (omega arith))
 
-  pub unnamed_paragraph : {p : Parts} (f : Refusal) → length l ≤ longest_entry → IsParted l p → N (take p.name_end l) (Chosen'.Refused f)
+  pub unnamed_paragraph : {p : Parts} (f : Refusal) → length l ≤ longest_entry → IsParted l p → N (take p.name_end l) (Err f)
       → Text (Unnamed (take p.name_end l) (drop p.text_from l) f.number) longest_paragraph b 0 b' i → Text (Paragraph N l) longest_paragraph b 0 b' i
   unnamed_paragraph f h p n t = paragraph (text_as t (λ u x. Explained.explained h (ByEntry.no_name p.entry n x)) (omega arith))
 
-  pub reason_paragraph : {p : Parts} {c : Calendar} {r : Reason} → length l ≤ longest_entry → IsParted l p → N (take p.name_end l) (Chosen'.Calendar c) → Explains c (drop p.text_from l) r
+  pub reason_paragraph : {p : Parts} {c : Calendar} {r : Reason} → length l ≤ longest_entry → IsParted l p → N (take p.name_end l) (Ok c) → Explains c (drop p.text_from l) r
       → Text (Says (take p.name_end l) (drop p.text_from l) r) longest_paragraph b 0 b' i → Text (Paragraph N l) longest_paragraph b 0 b' i
   reason_paragraph h p n e t = paragraph (text_as t (λ u x. Explained.explained h (ByEntry.by_text p.entry n e x)) (omega arith))
 
@@ -68,14 +65,14 @@ module _ {name text b b' : List ℕ} {number i : ℕ} where
   made_up_name e t = text_as t (λ u x. Unnamed.made_up e x) (omega arith)
 
 -- ---- a text copied from the front of another buffer
-pub puts_done : {t b : List ℕ} {at : ℕ} {b' : List ℕ} {i : ℕ} → Copies t b at b' (Copied.To i) → Puts t b at b' (Written.Done i)
+pub puts_done : {t b : List ℕ} {at : ℕ} {b' : List ℕ} {i : ℕ} → Copies t b at b' (Some i) → Puts t b at b' (Ok i)
 puts_done (Copies.copied h) = Puts.done h
 
-pub puts_short : {t b : List ℕ} {at : ℕ} {b' : List ℕ} {f : Refusal} {n : ℕ} → Copies t b at b' Copied.NoRoom → f ≡ refusal 18 0 (pos n) → n ≡ length t → Puts t b at b' (Written.Refused f)
-puts_short {t} {b} {at} {b'} (Copies.no_room h) e k = subst (λ (g : Refusal). Puts t b at b' (Written.Refused g)) (sym (e ∙ ap (λ (n : ℕ). refusal 18 0 (pos n)) k)) (Puts.short h)
+pub puts_short : {t b : List ℕ} {at : ℕ} {b' : List ℕ} {f : Refusal} {n : ℕ} → Copies t b at b' None → f ≡ refusal 18 0 (pos n) → n ≡ length t → Puts t b at b' (Err f)
+puts_short {t} {b} {at} {b'} (Copies.no_room h) e k = subst (λ (g : Refusal). Puts t b at b' (Err g)) (sym (e ∙ ap (λ (n : ℕ). refusal 18 0 (pos n)) k)) (Puts.short h)
 
 module _ {P : List ℕ → Type 0} {z z' : List ℕ} {n : ℕ} (t : Text P longest_paragraph z 0 z' n) where
-  pub apart_writes : {b : List ℕ} {at : ℕ} {b' : List ℕ} {r : Written} → Puts (take n z') b at b' r → Writes P b at b' r
+  pub apart_writes : {b : List ℕ} {at : ℕ} {b' : List ℕ} {r : Result ℕ Refusal} → Puts (take n z') b at b' r → Writes P b at b' r
   apart_writes {b} {at} {b'} {r} p = Writes.writes t.is (subst (λ (u : List ℕ). Puts u b at b' r) (apart_is t) p)
 
   pub apart_few : n ≤ longest_paragraph

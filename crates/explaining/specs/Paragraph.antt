@@ -1,8 +1,7 @@
 -- The paragraph for a line of a register. What a name comes to is given: N.
-use Rattle.std.specs.Prelude.{ℕ, ◌≤◌, ◌<◌, ◌≡◌, List, [], length}
+use Rattle.std.specs.Prelude.{ℕ, ◌≤◌, ◌<◌, ◌≡◌, List, [], length, Ok, Err}
 use Rattle.refusals.specs.declared.Refusal.{Refusal}
 use Rattle.calendar.specs.declared.Calendar.{Calendar}
-use Rattle.calendar.specs.declared.Chosen.TheVariants as Chosen'
 use Rattle.entry.specs.Entry.{longest_entry, Entry}
 use Rattle.entry.specs.Promise.{Naming}
 use Rattle.reasons.specs.declared.Reason.{Reason}
@@ -19,8 +18,8 @@ pub data Unnamed (name text : List ℕ) (number : ℕ) : List ℕ → Type 0 whe
 
 -- of a line that is not too long, by its name and its text
 pub data ByEntry (N : Naming) (l : List ℕ) : List ℕ → Type 0 where
-  no_name : {name text t : List ℕ} {f : Refusal} → Entry l name text → N name (Chosen'.Refused f) → Unnamed name text f.number t → ByEntry N l t
-  by_text : {name text t : List ℕ} {c : Calendar} {r : Reason} → Entry l name text → N name (Chosen'.Calendar c) → Explains c text r → Says name text r t → ByEntry N l t
+  no_name : {name text t : List ℕ} {f : Refusal} → Entry l name text → N name (Err f) → Unnamed name text f.number t → ByEntry N l t
+  by_text : {name text t : List ℕ} {c : Calendar} {r : Reason} → Entry l name text → N name (Ok c) → Explains c text r → Says name text r t → ByEntry N l t
 
 -- 20; then 19; then the reason for what the text comes to
 pub data Explained (N : Naming) (l : List ℕ) : List ℕ → Type 0 where

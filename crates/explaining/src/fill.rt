@@ -6,8 +6,7 @@ ghost use Rattle.linetext.specs.Laws.{Text};
 ghost use Rattle.explaining.specs.Patterns.{shown_byte_value, shown, cost_of, cost, Filled};
 ghost use Rattle.explaining.specs.Laws.{Decimals, Piece, used_after_value};
 
-use writer::buffer::Copied;
-use writer::{Written, buffer};
+use writer::buffer;
 
 pub fn put_byte(out: &mut [u8], at: usize, b: u8) -> usize
     requires { at < length out.old }
@@ -23,8 +22,8 @@ pub fn put_text(out: &mut [u8], at: usize, text: &[u8]) -> usize
     ensures { PutText out.old at text.now out.new result }
 {
     match buffer::copy_text(out, at, text) {
-        Copied::To(end) => end,
-        Copied::NoRoom => at,
+        Some(end) => end,
+        None => at,
     }
 }
 
@@ -60,8 +59,8 @@ pub fn put_number(out: &mut [u8], at: usize, x: i64) -> usize
     let negative = whole::is_negative(x);
     let n = whole::magnitude(x);
     match writer::put_at(out, at, negative, n) {
-        Written::Done(end) => end,
-        Written::Refused(_) => at,
+        Ok(end) => end,
+        Err(_) => at,
     }
 }
 

@@ -20,16 +20,16 @@ ghost use Rattle.explaining.specs.Paragraph.{Unnamed, Paragraph};
 ghost use Rattle.explaining.specs.Laws.{Is};
 ghost use Rattle.explaining.specs.LineLaws.{Fits};
 
-use calendar::{Calendar, Chosen};
+use calendar::Calendar;
 use catalogue::{Links, Names};
 pub use entry::LONGEST_ENTRY;
 use reasons::Reason;
 pub use sentences::LONGEST_PARAGRAPH;
-use writer::buffer::Copied;
-use writer::{Written, buffer};
+use writer::buffer;
+use refusals::Refusal;
 
 // The paragraph of its answer, from `at` on.
-pub fn explain_line(names: &Names, links: &Links, line: &[u8], out: &mut [u8], at: usize) -> Written
+pub fn explain_line(names: &Names, links: &Links, line: &[u8], out: &mut [u8], at: usize) -> Result<usize, Refusal>
     ensures { Writes (Paragraph (NamesIn (memory names.now links.now)) line.now) out.old at out.new result }
 {
     let mut apart = [0u8; LONGEST_PARAGRAPH];
@@ -38,7 +38,7 @@ pub fn explain_line(names: &Names, links: &Links, line: &[u8], out: &mut [u8], a
 }
 
 // That of a line that is too long, whatever its bytes are.
-pub fn explain_too_long(out: &mut [u8], at: usize) -> Written
+pub fn explain_too_long(out: &mut [u8], at: usize) -> Result<usize, Refusal>
     ensures { Writes (Is long_line) out.old at out.new result }
 {
     let mut apart = [0u8; LONGEST_PARAGRAPH];
@@ -47,20 +47,20 @@ pub fn explain_too_long(out: &mut [u8], at: usize) -> Written
 }
 
 // So many bytes from the front of a buffer. The array is lent as a slice first, of which a part is lent then.
-fn put_front(out: &mut [u8], at: usize, apart: &[u8; LONGEST_PARAGRAPH], size: usize) -> Written
+fn put_front(out: &mut [u8], at: usize, apart: &[u8; LONGEST_PARAGRAPH], size: usize) -> Result<usize, Refusal>
     requires { size ≤ longest_paragraph }
     ensures { Puts (take size apart.now) out.old at out.new result }
 {
     put_part(out, at, apart, size)
 }
 
-fn put_part(out: &mut [u8], at: usize, apart: &[u8], size: usize) -> Written
+fn put_part(out: &mut [u8], at: usize, apart: &[u8], size: usize) -> Result<usize, Refusal>
     requires { (size ≤ length apart.now) × (size ≤ longest_paragraph) }
     ensures { Puts (take size apart.now) out.old at out.new result }
 {
     match buffer::copy_text(out, at, &apart[..size]) {
-        Copied::To(end) => Written::Done(end),
-        Copied::NoRoom => Written::Refused(refusals::refusal_with(18, size as u32)),
+        Some(end) => Ok(end),
+        None => Err(refusals::refusal_with(18, size as u32)),
     }
 }
 
@@ -78,14 +78,14 @@ fn put_paragraph(
     }
     let parts = entry::parts_of(line);
     match named_before(names, links, line, parts.name_end) {
-        Chosen::Refused(why) => put_unnamed(
+        Err(why) => put_unnamed(
             apart,
             line,
             parts.name_end,
             parts.text_from,
             why.number,
         ),
-        Chosen::Calendar(calendar) => {
+        Ok(calendar) => {
             let reason = explained_from(calendar, line, parts.text_from);
             put_reason(apart, line, parts.name_end, parts.text_from, reason)
         }
@@ -93,7 +93,7 @@ fn put_paragraph(
 }
 
 // Each part of the line is lent in a function of its own, so that no function has both.
-fn named_before(names: &Names, links: &Links, line: &[u8], end: usize) -> Chosen
+fn named_before(names: &Names, links: &Links, line: &[u8], end: usize) -> Result<Calendar, Refusal>
     requires { end ≤ length line.now }
     ensures { NamesIn (memory names.now links.now) (take end line.now) result }
 {

@@ -1,8 +1,7 @@
 -- THE THEOREMS ON A RUN OF THE EXPLANATION. A program that has read its catalogue, does what the turns say, and whose reads and writes do not fail, writes
 -- the explanation of its catalogue and its input, whatever parts these come in (`run_explains`); so two runs on them write the same (`any_run`).
-use Rattle.std.specs.Prelude.{ℕ, ◌≡◌, List, length}
+use Rattle.std.specs.Prelude.{ℕ, ◌≡◌, List, length, Result}
 use Rattle.std.proofs.Common.{sym, true≢false}
-use Rattle.calendar.specs.declared.Chosen.{Chosen}
 use Rattle.nametable.specs.Promise.{Memory}
 use Rattle.filter.specs.declared.State.{State}
 use Rattle.textlines.specs.Lines.{longest_read}
@@ -19,9 +18,11 @@ use Rattle.explainrun.specs.Promise.{start_of, unread, unwritten}
 use Rattle.explainrun.specs.Explanation as E
 use Rattle.explainrun.specs.Explanation.{Explanation}
 use Rattle.explainrun.specs.One.{explanation_one}
+use Rattle.refusals.specs.declared.Refusal.{Refusal}
+use Rattle.calendar.specs.declared.Calendar.{Calendar}
 
 -- ---- where whatever N says of a name M says too, a paragraph by N is one by M
-module _ {N M : Naming} (also : (s : List ℕ) (a : Chosen) → N s a → M s a) where
+module _ {N M : Naming} (also : (s : List ℕ) (a : Result Calendar Refusal) → N s a → M s a) where
   by_entry_also : {l t : List ℕ} → P.ByEntry N l t → P.ByEntry M l t
   by_entry_also (P.no_name p n x) = P.no_name p (also _ _ n) x
   by_entry_also (P.by_text p n e x) = P.by_text p (also _ _ n) e x

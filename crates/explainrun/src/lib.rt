@@ -19,7 +19,7 @@ use cataloguerun::CatalogueRun;
 use filter::{BLOCK_SIZE, Phase, State};
 pub use linerun::LONGEST_READ;
 use linerun::Turn;
-use writer::Written;
+use refusals::Refusal;
 
 const UNREAD: [u8; 86] =
     *b"explain: standard input could not be read to its end; the explanation is not complete\n";
@@ -72,8 +72,8 @@ fn answer(
     ensures { Answers (Paragraph (NamesIn (memory names.now links.now))) unread unwritten line.now out.old (EndedLine held after) out.new result }
 {
     match put_held(names, links, line, held, out) {
-        Written::Done(used) => linerun::with_output(after, used),
-        Written::Refused(_) => after,
+        Ok(used) => linerun::with_output(after, used),
+        Err(_) => after,
     }
 }
 
@@ -83,7 +83,7 @@ fn put_held(
     line: &[u8; LONGEST_READ],
     held: usize,
     out: &mut [u8],
-) -> Written
+) -> Result<usize, Refusal>
     ensures { Writes (HeldOut (Paragraph (NamesIn (memory names.now links.now))) line.now held) out.old 0 out.new result }
 {
     let short = held <= LONGEST_READ;
@@ -93,7 +93,7 @@ fn put_held(
     explaining::explain_too_long(out, 0)
 }
 
-fn put_front(names: &Names, links: &Links, line: &[u8], held: usize, out: &mut [u8]) -> Written
+fn put_front(names: &Names, links: &Links, line: &[u8], held: usize, out: &mut [u8]) -> Result<usize, Refusal>
     requires { held ≤ length line.now }
     ensures { Writes (Paragraph (NamesIn (memory names.now links.now)) (take held line.now)) out.old 0 out.new result }
 {

@@ -1,11 +1,10 @@
 -- From what the calls below say to the promises.
 -- Assumes nothing.
-use Rattle.std.specs.Prelude.{ℕ, zero, suc, ◌≤◌, ◌<◌, ◌≡◌, refl, Bool, true, false, List, length, ℤ, pos, negsuc}
+use Rattle.std.specs.Prelude.{ℕ, zero, suc, ◌≤◌, ◌<◌, ◌≡◌, refl, Bool, true, false, List, length, ℤ, pos, negsuc, Some, None}
 use Rattle.std.proofs.Common.{sym, ◌∙◌, ap, subst, true≢false, zero-add, arith, ltb-true}
 use Rattle.std.specs.Int.Signed.{lt_z}
 use Rattle.filter.specs.Counts.{clamp_len}
 use Rattle.writer.specs.Promise.{put, Copies}
-use Rattle.writer.specs.declared.buffer.Copied.{Copied}
 use Rattle.filter.specs.declared.Phase.{Phase}
 use Rattle.filter.specs.declared.Phase.TheVariants.{Reading, Midway, Closing, Failing, Ended}
 use Rattle.filter.specs.declared.Event.TheVariants.{Block, InputEnds, Unread}
@@ -51,8 +50,8 @@ room_fits Ended w = omega arith
 
 -- ---- a message
 
-pub message_put : {t o o' : List ℕ} {n : ℕ} {s : State} → Copies t o 0 o' (Copied.To n) → s ≡ state_with_value Failing n → PutsMessage t o o' s
+pub message_put : {t o o' : List ℕ} {n : ℕ} {s : State} → Copies t o 0 o' (Some n) → s ≡ state_with_value Failing n → PutsMessage t o o' s
 message_put {t} {o} (Copies.copied h) e = subst (PutsMessage t o (put o 0 t)) (sym (e ∙ ap (state_with_value Failing) (zero-add (length t)))) (PutsMessage.put_there (omega arith))
 
-pub message_left_out : {t o o' : List ℕ} {s : State} → Copies t o 0 o' Copied.NoRoom → s ≡ state_with_value Failing 0 → PutsMessage t o o' s
+pub message_left_out : {t o o' : List ℕ} {s : State} → Copies t o 0 o' None → s ≡ state_with_value Failing 0 → PutsMessage t o o' s
 message_left_out {t} {o} (Copies.no_room h) e = subst (PutsMessage t o o) (sym e) (PutsMessage.left_out (omega arith))

@@ -9,7 +9,6 @@ ghost use Rattle.filter.specs.Counts.{clamp_len};
 ghost use Rattle.filter.specs.Promise.{goes_on_value, output_of, room_of, arrived_of, event_of, state_with_value, PutsMessage};
 
 use writer::buffer;
-use writer::buffer::Copied;
 
 // The bytes of a block, and of the output.
 pub const BLOCK_SIZE: usize = 65536;
@@ -177,8 +176,8 @@ pub fn say(text: &[u8], out: &mut [u8; BLOCK_SIZE]) -> State
     ensures { PutsMessage text.now out.old out.new result }
 {
     match buffer::copy_text(out, 0, text) {
-        Copied::To(used) => state_with(Phase::Failing, used),
-        Copied::NoRoom => state_with(Phase::Failing, 0),
+        Some(used) => state_with(Phase::Failing, used),
+        None => state_with(Phase::Failing, 0),
     }
 }
 

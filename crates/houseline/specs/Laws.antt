@@ -1,5 +1,5 @@
 -- What the proofs need: the parts of a line, where its name ends, its digits, and its number in 32 bits.
-use Rattle.std.specs.Prelude.{ℕ, zero, suc, ◌+◌, ◌≤◌, ◌<◌, ◌^◌, ◌≡◌, refl, Bool, true, false, List, [], ◌∷◌, ◌++◌, ◌⊎◌, length, get_or, take, drop, ℤ, pos, neg_ℤ}
+use Rattle.std.specs.Prelude.{ℕ, zero, suc, ◌+◌, ◌≤◌, ◌<◌, ◌^◌, ◌≡◌, refl, Bool, true, false, List, [], ◌∷◌, ◌++◌, ◌⊎◌, length, get_or, take, drop, ℤ, pos, neg_ℤ, Result, Ok, Err}
 use Rattle.std.proofs.Common.{sym, ◌∙◌, ap, ap₂, subst, append_assoc, append-nil, inl, inr, ⊎_elim, arith, length-append, length-drop, take_at, drop_at, drop-cons, take-suc, get_or-take, length-take-le, to_z, of_z, to_z-of_z}
 use Rattle.std.specs.Int.{w32}
 use Rattle.whole.specs.Tests.{lt_or_ge}
@@ -15,7 +15,6 @@ use Rattle.digits.specs.Runs.{leaves_some}
 use Rattle.numbertext.specs.Numerals.{Signed, TooFar, NoSigned}
 use Rattle.numbertext.specs.Promise.{SignedFrom, SignedAt, At}
 use Rattle.numbertext.specs.Meaning.{signed_complete}
-use Rattle.numbertext.specs.declared.SignedNumber.{SignedNumber}
 use Rattle.houseline.specs.Form.{Letter, capital, digit, underscore, Letters, Name, Written, Form, form}
 use Rattle.houseline.specs.declared.HouseLine.{HouseLine}
 use Rattle.whole.specs.Text.{tab}
@@ -187,12 +186,12 @@ below_not zero h f = omega arith
 below_not (suc n) h f = omega (arith, f.sfits)
 
 -- what a written number is, as a number at `at`
-data Written32 (at : ℕ) (u : List ℕ) (z : ℤ) : SignedNumber → Type 0 where
-  inside : {next : ℕ} → Fits32 z → Written32 at u z (SignedNumber.Value z next)
-  leaves : {f : Refusal} → ¬ Fits32 z → NoSigned at u f → Written32 at u z (SignedNumber.Refused f)
+data Written32 (at : ℕ) (u : List ℕ) (z : ℤ) : Result (ℤ × ℕ) Refusal → Type 0 where
+  inside : {next : ℕ} → Fits32 z → Written32 at u z (Ok (z, next))
+  leaves : {f : Refusal} → ¬ Fits32 z → NoSigned at u f → Written32 at u z (Err f)
 
 record Read32 (at : ℕ) (u : List ℕ) (z : ℤ) : Type 0 where
-  result : SignedNumber
+  result : Result (ℤ × ℕ) Refusal
   read : SignedFrom at u result
   is : Written32 at u z result
 
@@ -204,13 +203,13 @@ too_far {p} limit number at w h =
 
 numbered : {at : ℕ} {u : List ℕ} {z : ℤ} → Signed u z → Fits32 z → Read32 at u z
 numbered {at} {u} {z} w f = record {
-  result = SignedNumber.Value z (at + length u);
-  read = subst (λ (x : List ℕ). SignedFrom at x (SignedNumber.Value z (at + length u))) (append-nil u) (SignedFrom.number w Stops.ended);
+  result = Ok (z, at + length u);
+  read = subst (λ (x : List ℕ). SignedFrom at x (Ok (z, at + length u))) (append-nil u) (SignedFrom.number w Stops.ended);
   is = inside f;
 }
 
 refused : {at : ℕ} {u : List ℕ} {z : ℤ} {f : Refusal} → ¬ Fits32 z → NoSigned at u f → Read32 at u z
-refused {f = f} o n = record { result = SignedNumber.Refused f; read = SignedFrom.no_number n; is = leaves o n }
+refused {f = f} o n = record { result = Err f; read = SignedFrom.no_number n; is = leaves o n }
 
 written_32 : (at : ℕ) {u : List ℕ} {z : ℤ} → Written u z → Read32 at u z
 written_32 at (Written.plain {n = n} w) = ⊎_elim
@@ -223,32 +222,32 @@ written_32 at (Written.with_dash {n = n} w) = ⊎_elim
     (lt_or_ge (2 ^ 31) n)
 
 -- what is read is that
-signed_read : {at : ℕ} {u : List ℕ} {z : ℤ} {r : SignedNumber} → Written u z → SignedFrom at u r → Written32 at u z r
+signed_read : {at : ℕ} {u : List ℕ} {z : ℤ} {r : Result (ℤ × ℕ) Refusal} → Written u z → SignedFrom at u r → Written32 at u z r
 signed_read {at} {u} {z} w s = let q = written_32 at w in subst (Written32 at u z) (sym (signed_complete q.read) ∙ signed_complete s) q.is
 
 pub leaves_one : {at : ℕ} {u : List ℕ} {f g : Refusal} → NoSigned at u f → NoSigned at u g → f ≡ g
-leaves_one {f = f} {g} a b = let e : SignedNumber.Refused f ≡ SignedNumber.Refused g = sym (signed_complete (SignedFrom.no_number a)) ∙ signed_complete (SignedFrom.no_number b) in cc
+leaves_one {f = f} {g} a b = let e : Err f ≡ Err g = sym (signed_complete (SignedFrom.no_number a)) ∙ signed_complete (SignedFrom.no_number b) in cc
 
 -- what comes of a line whose name ends at `end`, and whose number is written in u
 pub data Outcome (u : List ℕ) (end : ℕ) : HouseLine → Type 0 where
   fits : {z : ℤ} → Written u z → Fits32 z → Outcome u end (HouseLine.House end z)
   big : {z : ℤ} {f : Refusal} → Written u z → NoSigned (end + 1) u f → Outcome u end (HouseLine.Outside f)
 
-at_place : {s : List ℕ} {at : ℕ} {r : SignedNumber} → at ≤ length s → SignedAt s at r → SignedFrom at (drop at s) r
+at_place : {s : List ℕ} {at : ℕ} {r : Result (ℤ × ℕ) Refusal} → at ≤ length s → SignedAt s at r → SignedFrom at (drop at s) r
 at_place h (At.past k) = absurd (omega arith)
 at_place h (At.within k f) = f
 
 module _ {s : List ℕ} {end : ℕ} (h : end < length s) (w : IsWritten (drop (end + 1) s)) where
-  pub outcome_value : {y : ℤ} {next : ℕ} → SignedAt s (end + 1) (SignedNumber.Value y next) → Outcome (drop (end + 1) s) end (HouseLine.House end (to_z w32 (of_z w32 y)))
+  pub outcome_value : {y : ℤ} {next : ℕ} → SignedAt s (end + 1) (Ok (y, next)) → Outcome (drop (end + 1) s) end (HouseLine.House end (to_z w32 (of_z w32 y)))
   outcome_value a = by w.1 (signed_read w.1 (at_place (omega arith) a))
     where
-      by : {z y : ℤ} {next : ℕ} → Written (drop (end + 1) s) z → Written32 (end + 1) (drop (end + 1) s) z (SignedNumber.Value y next) → Outcome (drop (end + 1) s) end (HouseLine.House end (to_z w32 (of_z w32 y)))
+      by : {z y : ℤ} {next : ℕ} → Written (drop (end + 1) s) z → Written32 (end + 1) (drop (end + 1) s) z (Ok (y, next)) → Outcome (drop (end + 1) s) end (HouseLine.House end (to_z w32 (of_z w32 y)))
       by v (inside f) = subst (λ (x : ℤ). Outcome (drop (end + 1) s) end (HouseLine.House end x)) (sym (to_z-of_z f)) (fits v f)
 
-  pub outcome_refused : {f : Refusal} → SignedAt s (end + 1) (SignedNumber.Refused f) → Outcome (drop (end + 1) s) end (HouseLine.Outside f)
+  pub outcome_refused : {f : Refusal} → SignedAt s (end + 1) (Err f) → Outcome (drop (end + 1) s) end (HouseLine.Outside f)
   outcome_refused a = by w.1 (signed_read w.1 (at_place (omega arith) a))
     where
-      by : {z : ℤ} {f : Refusal} → Written (drop (end + 1) s) z → Written32 (end + 1) (drop (end + 1) s) z (SignedNumber.Refused f) → Outcome (drop (end + 1) s) end (HouseLine.Outside f)
+      by : {z : ℤ} {f : Refusal} → Written (drop (end + 1) s) z → Written32 (end + 1) (drop (end + 1) s) z (Err f) → Outcome (drop (end + 1) s) end (HouseLine.Outside f)
       by v (leaves o n) = big v n
 
 pub written_by : {u p : List ℕ} (b : Bool) → DigitsFrom u p → Whether (Numerals p) b → Whether (IsWritten u) b
@@ -286,7 +285,7 @@ pub fits_or_leaves : {l name : List ℕ} {z : ℤ} → Form l name z → Fits32 
 fits_or_leaves {name = name} g =
     let (text, e, n, w, h) = form_parts g in by e (written_32 (length name + 1) w).is
   where
-    by : {l text : List ℕ} {z : ℤ} {r : SignedNumber} → l ≡ name ++ (tab ∷ text) → Written32 (length name + 1) text z r → Fits32 z ⊎ ((f : Refusal) × LeavesAfter l (length name) f)
+    by : {l text : List ℕ} {z : ℤ} {r : Result (ℤ × ℕ) Refusal} → l ≡ name ++ (tab ∷ text) → Written32 (length name + 1) text z r → Fits32 z ⊎ ((f : Refusal) × LeavesAfter l (length name) f)
     by e (inside k) = inl k
     by {text = text} e (leaves {f} o k) = inr (f, subst (λ (x : List ℕ). NoSigned (length name + 1) x f) (sym (after_tab name text e)) k)
 
@@ -295,7 +294,7 @@ fits_leaves {name = name} {f = f} g k t =
     let (text, e, n, w, h) = form_parts g in
     by k (signed_read w (SignedFrom.no_number (subst (λ (x : List ℕ). NoSigned (length name + 1) x f) (after_tab name text e) t)))
   where
-    by : {at : ℕ} {u : List ℕ} {z : ℤ} → Fits32 z → Written32 at u z (SignedNumber.Refused f) → ⊥
+    by : {at : ℕ} {u : List ℕ} {z : ℤ} → Fits32 z → Written32 at u z (Err f) → ⊥
     by k (leaves o n) = o k
 
 -- and it leaves them in the line

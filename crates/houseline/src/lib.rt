@@ -9,7 +9,6 @@ ghost use Rattle.houseline.specs.Form.{Letter, Name};
 ghost use Rattle.houseline.specs.Promise.{Reads};
 ghost use Rattle.houseline.specs.Laws.{Lettered, DigitsFrom, Numerals, IsWritten, Outcome};
 
-use numbertext::SignedNumber;
 use refusals::Refusal;
 use textlines::LONGEST_READ;
 
@@ -118,8 +117,8 @@ fn house_of(line: &[u8], end: usize) -> HouseLine
     ensures { Outcome (drop (end + 1) line.now) end result }
 {
     match numbertext::signed_at(line, end + 1) {
-        SignedNumber::Value(r, _) => HouseLine::House(end, r),
-        SignedNumber::Refused(f) => HouseLine::Outside(f),
+        Ok((r, _)) => HouseLine::House(end, r),
+        Err(f) => HouseLine::Outside(f),
     }
 }
 

@@ -10,8 +10,6 @@ ghost use Rattle.std.specs.Prelude.{◌<◌, ◌≤◌, length};
 use catalogue::{LINK_COUNT, Links, NAME_BYTES, Names};
 use filter::BLOCK_SIZE;
 use importing::{LONGEST_RECORD, Progress, Stopped};
-use numbertext::Number;
-use writer::Written;
 
 // The longest strings of which all are imported.
 const LONGEST: usize = 7;
@@ -20,8 +18,8 @@ const LONGEST: usize = 7;
 
 fn put_header(out: &mut [u8; BLOCK_SIZE]) -> usize {
     match importing::put_header(out, 0) {
-        Written::Done(used) => used,
-        Written::Refused(_) => 0,
+        Ok(used) => used,
+        Err(_) => 0,
     }
 }
 
@@ -298,7 +296,7 @@ fn piece_at(input: &[u8], at: usize) -> Piece
     requires { at < length input.now }
     ensures { (result.from ≤ result.to) × ((result.to ≤ length input.now) × (at < result.next)) }
 {
-    if let Number::Value(size, after) = numbertext::number_at(input, at) {
+    if let Ok((size, after)) = numbertext::number_at(input, at) {
         if at < after {
             if after < input.len() {
                 return piece_from(after + 1, size as usize, input.len());

@@ -1,6 +1,6 @@
 -- What the proofs need: how a record is written, and that each one takes the text further.
 -- Assumes nothing.
-use Rattle.std.specs.Prelude.{ℕ, ◌+◌, ◌-◌, ◌≤◌, ◌<◌, ◌≡◌, refl, Bool, List, [], ◌∷◌, ◌++◌, length, take, drop, pos}
+use Rattle.std.specs.Prelude.{ℕ, ◌+◌, ◌-◌, ◌≤◌, ◌<◌, ◌≡◌, refl, Bool, List, [], ◌∷◌, ◌++◌, length, take, drop, pos, Result, Ok, Err}
 use Rattle.std.proofs.Common.{sym, ◌∙◌, ap, subst, arith, length-append, length-drop, take_all}
 use Rattle.std.proofs.Math.Nat.{min-eq_left, min-eq_right}
 use Rattle.refusals.specs.Promise.{refusal}
@@ -8,12 +8,9 @@ use Rattle.whole.specs.Text.{tab}
 use Rattle.refusals.specs.declared.Refusal.{Refusal}
 use Rattle.writer.specs.Promise.{Writes, Puts}
 use Rattle.writer.proofs.PutLaws.{length_put}
-use Rattle.writer.specs.declared.Written.{Written}
-use Rattle.calendar.specs.declared.Chosen.{Chosen}
 use Rattle.entry.specs.Promise.{Naming}
 use Rattle.linetext.specs.Line.{longest_line}
 use Rattle.linetext.specs.Promise.{LineOut}
-use Rattle.linetext.specs.declared.Line.TheVariants as Line'
 use Rattle.listing.specs.Promise.{HeldLine, LastLine}
 use Rattle.listing.specs.Laws.{Wrote, wrote_it, held_short, listed_also}
 use Rattle.commatext.specs.declared.Scan.{Scan}
@@ -25,6 +22,7 @@ use Rattle.importing.specs.Import.{Imported, AllImported}
 use Rattle.importing.specs.declared.Taken.{Taken}
 use Rattle.importing.specs.declared.Stopped.{Stopped}
 use Rattle.importing.specs.Promise.{most_place, place_of, ImportState, import_state, TakesRecord, Imports}
+use Rattle.calendar.specs.declared.Calendar.{Calendar}
 
 -- ---- offsets in the file
 
@@ -40,16 +38,16 @@ held_line : {N : Naming} {l : List ℕ} {n : ℕ} {t : List ℕ} → LastLine N 
 held_line LastLine.no_more h = absurd (omega arith)
 held_line (LastLine.one_more j g) h = g
 
-pub entry_wrote : {N : Naming} {l : List ℕ} {n : ℕ} {b : List ℕ} {at : ℕ} {b' : List ℕ} {i : ℕ} → 0 < n → Writes (LastLine N l n) b at b' (Written.Done i) → Wrote (HeldLine N l n) b at b' i
+pub entry_wrote : {N : Naming} {l : List ℕ} {n : ℕ} {b : List ℕ} {at : ℕ} {b' : List ℕ} {i : ℕ} → 0 < n → Writes (LastLine N l n) b at b' (Ok i) → Wrote (HeldLine N l n) b at b' i
 entry_wrote h (Writes.writes x (Puts.done k)) = wrote_it (held_line x h) k
 
-pub entry_room : {N : Naming} {l : List ℕ} {n : ℕ} {b : List ℕ} {at : ℕ} {b' : List ℕ} {f : Refusal} → 0 < n → at + longest_line ≤ length b → Writes (LastLine N l n) b at b' (Written.Refused f) → ⊥
+pub entry_room : {N : Naming} {l : List ℕ} {n : ℕ} {b : List ℕ} {at : ℕ} {b' : List ℕ} {f : Refusal} → 0 < n → at + longest_line ≤ length b → Writes (LastLine N l n) b at b' (Err f) → ⊥
 entry_room h k (Writes.writes x (Puts.short s)) = omega (arith, held_short (held_line x h))
 
-pub fault_wrote : {f : Refusal} {b : List ℕ} {at : ℕ} {b' : List ℕ} {i : ℕ} → Writes (LineOut (Line'.Refusal f)) b at b' (Written.Done i) → Wrote (LineOut (Line'.Refusal f)) b at b' i
+pub fault_wrote : {f : Refusal} {b : List ℕ} {at : ℕ} {b' : List ℕ} {i : ℕ} → Writes (LineOut (Err f)) b at b' (Ok i) → Wrote (LineOut (Err f)) b at b' i
 fault_wrote (Writes.writes x (Puts.done k)) = wrote_it x k
 
-pub fault_room : {f : Refusal} {b : List ℕ} {at : ℕ} {b' : List ℕ} {g : Refusal} → at + longest_line ≤ length b → Writes (LineOut (Line'.Refusal f)) b at b' (Written.Refused g) → ⊥
+pub fault_room : {f : Refusal} {b : List ℕ} {at : ℕ} {b' : List ℕ} {g : Refusal} → at + longest_line ≤ length b → Writes (LineOut (Err f)) b at b' (Err g) → ⊥
 fault_room k (Writes.writes x (Puts.short s)) = omega (arith, x.short)
 
 -- ---- the line of a record has room in the line buffer
@@ -138,16 +136,16 @@ pub takes_entry : {N : Naming} {ends : Bool} {o : ℕ} {b : List ℕ} {at : ℕ}
 takes_entry p (wrote_it q h) = TakesRecord.entry p q
 
 pub takes_miscounted : {N : Naming} {ends : Bool} {o : ℕ} {b : List ℕ} {at : ℕ} {l x : List ℕ} {u : ℕ} {l' x' : List ℕ} {j n : ℕ}
-    → Scans ends (drop at b) l l' (Miscounted n) → Wrote (LineOut (Line'.Refusal (refusal 27 (place_of o at) (pos 0)))) x u x' j → TakesRecord N ends o b (import_state at l x u) l' x' (Taken.Written (at + n) j)
+    → Scans ends (drop at b) l l' (Miscounted n) → Wrote (LineOut (Err (refusal 27 (place_of o at) (pos 0)))) x u x' j → TakesRecord N ends o b (import_state at l x u) l' x' (Taken.Written (at + n) j)
 takes_miscounted p (wrote_it q h) = TakesRecord.miscounted p q
 
 pub takes_stop : {N : Naming} {ends : Bool} {o : ℕ} {b : List ℕ} {at : ℕ} {l x : List ℕ} {u : ℕ} {l' x' : List ℕ} {j n p : ℕ}
-    → Scans ends (drop at b) l l' (Stops n p) → Wrote (LineOut (Line'.Refusal (refusal n (place_of (place_of o at) p) (pos 0)))) x u x' j → TakesRecord N ends o b (import_state at l x u) l' x' (Taken.Ended j)
+    → Scans ends (drop at b) l l' (Stops n p) → Wrote (LineOut (Err (refusal n (place_of (place_of o at) p) (pos 0)))) x u x' j → TakesRecord N ends o b (import_state at l x u) l' x' (Taken.Ended j)
 takes_stop p (wrote_it q h) = TakesRecord.stops p q
 
 -- ---- where whatever N says of a name M says too, what is imported by N is imported by M
 
-module _ {N M : Naming} (also : (s : List ℕ) (a : Chosen) → N s a → M s a) where
+module _ {N M : Naming} (also : (s : List ℕ) (a : Result Calendar Refusal) → N s a → M s a) where
   imported_also : {r : Outcome} {t : List ℕ} → Imported N r t → Imported M r t
   imported_also (Imported.listed x) = Imported.listed (listed_also also x)
   imported_also (Imported.told x) = Imported.told x

@@ -1,6 +1,6 @@
 -- Two results that a promise of the import allows are equal, where a name has one answer; and a catalogue and an input have one import.
 -- Assumes nothing.
-use Rattle.std.specs.Prelude.{ℕ, ◌+◌, ◌≡◌, refl, Bool, List, ◌++◌, length, pos}
+use Rattle.std.specs.Prelude.{ℕ, ◌+◌, ◌≡◌, refl, Bool, List, ◌++◌, length, pos, Err}
 use Rattle.std.proofs.Common.{sym, ap, ap₂, subst, ◌∙◌, arith}
 use Rattle.refusals.specs.Promise.{refusal}
 use Rattle.refusals.specs.declared.Refusal.{Refusal}
@@ -13,7 +13,6 @@ use Rattle.writer.specs.Promise.{put}
 use Rattle.entry.specs.Promise.{Naming}
 use Rattle.linetext.specs.Line.{Ended}
 use Rattle.linetext.specs.Promise.{LineOut}
-use Rattle.linetext.specs.declared.Line.TheVariants as Line'
 use Rattle.linetext.specs.One.{ended_one}
 use Rattle.columns.specs.Columns.{header}
 use Rattle.listing.specs.One.{listed_one, held_line_one}
@@ -27,8 +26,8 @@ use Rattle.importing.specs.Promise.{place_of, ImportState, import_state, TakesRe
 
 -- ---- the text of a refusal
 
-told_one : {f g : Refusal} {t u : List ℕ} → f ≡ g → LineOut (Line'.Refusal f) t → LineOut (Line'.Refusal g) u → t ≡ u
-told_one {u = u} e x y = ended_one x.is (subst (λ (h : Refusal). Ended (Line'.Refusal h) u) (sym e) y.is)
+told_one : {f g : Refusal} {t u : List ℕ} → f ≡ g → LineOut (Err f) t → LineOut (Err g) u → t ≡ u
+told_one {u = u} e x y = ended_one x.is (subst (λ (h : Refusal). Ended (Err h) u) (sym e) y.is)
 
 -- two scans of the same bytes that answer differently
 differ : {A : Type 0} {r q : Scan} → r ≡ q → (r ≡ q → ◌≡◌ {A = ℕ} 0 1) → A
@@ -136,4 +135,4 @@ import_one (refused {f} m x) (imported {hs} m' p q) = let e : refused_by f ≡ c
 import_one (refused {f} m x) (refused {f = g} {t = u} m' y) =
     let e : refused_by f ≡ refused_by g = means_one m m' in
     let d : f ≡ g = cc in
-    ap (λ (s : List ℕ). header ++ s) (ended_one x (subst (λ (h : Refusal). Ended (Line'.Refusal h) u) (sym d) y))
+    ap (λ (s : List ℕ). header ++ s) (ended_one x (subst (λ (h : Refusal). Ended (Err h) u) (sym d) y))

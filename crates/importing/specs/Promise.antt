@@ -1,13 +1,12 @@
 -- What is promised of a text that is imported from an offset on. `ends` tells whether the file ends after it, o is where in the file it begins. The
 -- answer to each name is given: N.
 -- Assumes nothing.
-use Rattle.std.specs.Prelude.{ℕ, ◌+◌, ◌≤◌, ◌<◌, min, Bool, List, length, drop, pos}
+use Rattle.std.specs.Prelude.{ℕ, ◌+◌, ◌≤◌, ◌<◌, min, Bool, List, length, drop, pos, Err}
 use Rattle.refusals.specs.Promise.{refusal}
 use Rattle.writer.specs.Promise.{put}
 use Rattle.entry.specs.Promise.{Naming}
 use Rattle.linetext.specs.Line.{longest_line}
 use Rattle.linetext.specs.Promise.{LineOut}
-use Rattle.linetext.specs.declared.Line.TheVariants as Line'
 use Rattle.listing.specs.Promise.{HeldLine}
 use Rattle.commatext.specs.declared.Scan.TheVariants.{Entry, Miscounted, Stops, Undecided}
 use Rattle.commatext.specs.Promise.{Scans}
@@ -40,9 +39,9 @@ import_state at l o u = record { at = at; line = l; out = o; used = u }
 pub data TakesRecord (N : Naming) (ends : Bool) (o : ℕ) (b : List ℕ) (s : ImportState) : List ℕ → List ℕ → Taken → Type 0 where
   entry : {l t : List ℕ} {k n : ℕ} → Scans ends (drop s.at b) s.line l (Entry k n) → HeldLine N l k t
       → TakesRecord N ends o b s l (put s.out s.used t) (Taken.Written (s.at + n) (s.used + length t))
-  miscounted : {l t : List ℕ} {n : ℕ} → Scans ends (drop s.at b) s.line l (Miscounted n) → LineOut (Line'.Refusal (refusal 27 (place_of o s.at) (pos 0))) t
+  miscounted : {l t : List ℕ} {n : ℕ} → Scans ends (drop s.at b) s.line l (Miscounted n) → LineOut (Err (refusal 27 (place_of o s.at) (pos 0))) t
       → TakesRecord N ends o b s l (put s.out s.used t) (Taken.Written (s.at + n) (s.used + length t))
-  stops : {l t : List ℕ} {n p : ℕ} → Scans ends (drop s.at b) s.line l (Stops n p) → LineOut (Line'.Refusal (refusal n (place_of (place_of o s.at) p) (pos 0))) t
+  stops : {l t : List ℕ} {n p : ℕ} → Scans ends (drop s.at b) s.line l (Stops n p) → LineOut (Err (refusal n (place_of (place_of o s.at) p) (pos 0))) t
       → TakesRecord N ends o b s l (put s.out s.used t) (Taken.Ended (s.used + length t))
   cut : {l : List ℕ} → Scans ends (drop s.at b) s.line l Undecided → TakesRecord N ends o b s l s.out Taken.Cut
 

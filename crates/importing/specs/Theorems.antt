@@ -4,7 +4,7 @@
 -- (`ended-gives`). So it does not matter in what parts a file comes: `importrun` says it of a whole run. That a catalogue and an input have one import
 -- is in `One`. Of a record whose fields hold f and g the listing looks up f and reads g (`line_parts`).
 -- Assumes nothing.
-use Rattle.std.specs.Prelude.{ℕ, ◌+◌, ◌-◌, ◌≤◌, ◌<◌, ◌≡◌, refl, Bool, true, List, [], ◌∷◌, ◌++◌, length, drop, pos}
+use Rattle.std.specs.Prelude.{ℕ, ◌+◌, ◌-◌, ◌≤◌, ◌<◌, ◌≡◌, refl, Bool, true, List, [], ◌∷◌, ◌++◌, length, drop, pos, Err}
 use Rattle.std.proofs.Common.{sym, ◌∙◌, ap, ap₂, subst, true≢false, append_assoc, append-nil, arith, length-append, length-drop, take_at, drop-drop, drop_at}
 use Rattle.std.proofs.Math.Nat.{min-eq_left}
 use Rattle.std.proofs.Math.Seq.{drop-length}
@@ -15,7 +15,6 @@ use Rattle.entry.specs.Entry.{Entry}
 use Rattle.entry.specs.Promise.{Naming, LineAnswer}
 use Rattle.linetext.specs.Line.{longest_line}
 use Rattle.linetext.specs.Promise.{LineOut}
-use Rattle.linetext.specs.declared.Line.TheVariants as Line'
 use Rattle.listing.specs.Lines.{Listed, listed}
 use Rattle.listing.specs.Promise.{HeldAnswer, HeldLine}
 use Rattle.listing.specs.Laws.{held_short}
@@ -90,7 +89,7 @@ other_count o (f ∷ []) h = refl
 other_count o (f ∷ g ∷ []) h = absurd (h refl)
 other_count o (f ∷ g ∷ i ∷ fs) h = refl
 
-took_miscounted : {N : Naming} {ends : Bool} (o : ℕ) {s b l t : List ℕ} {n : ℕ} → Scans ends s b l (Scan'.Miscounted n) → LineOut (Line'.Refusal (refusal 27 o (pos 0))) t → Took N ends o s n t
+took_miscounted : {N : Naming} {ends : Bool} (o : ℕ) {s b l t : List ℕ} {n : ℕ} → Scans ends s b l (Scan'.Miscounted n) → LineOut (Err (refusal 27 o (pos 0))) t → Took N ends o s n t
 took_miscounted {N} o {t = t} (Scans.miscounted {l} {fs} p f h c) x = record { bytes = l; fields = fs; is = p; short = h; closes = c; written = subst (λ (r : Outcome). Imported N r t) (other_count o fs f) (Imported.told x.is) }
 
 none_written : {N : Naming} {rs : List Outcome} {t : List ℕ} → AllImported N rs t → rs ≡ [] → t ≡ []
@@ -126,7 +125,7 @@ took_gives {N} {ends} {o} {n} {s} {t} k h z {v} c g = by k.closes
         }
 
 -- a fault ends it
-stop_gives : {N : Naming} {ends : Bool} {o : ℕ} {s b l t : List ℕ} {n p : ℕ} → Scans ends s b l (Scan'.Stops n p) → LineOut (Line'.Refusal (refusal n (o + p) (pos 0))) t → (z : List ℕ) → (ends ≡ true → z ≡ []) → Gives N o (s ++ z) (t ++ [])
+stop_gives : {N : Naming} {ends : Bool} {o : ℕ} {s b l t : List ℕ} {n p : ℕ} → Scans ends s b l (Scan'.Stops n p) → LineOut (Err (refusal n (o + p) (pos 0))) t → (z : List ℕ) → (ends ≡ true → z ≡ []) → Gives N o (s ++ z) (t ++ [])
 stop_gives {o = o} {t = t} {n} {p} (Scans.stops {l} {r} e b v) x z c =
     record {
       outcomes = refused n (o + p) ∷ [];
@@ -157,7 +156,7 @@ took : {N : Naming} {ends : Bool} {o : ℕ} {b : List ℕ} {s : ImportState} {l 
     → (n : ℕ) × (t : List ℕ) × Took N ends (o + s.at) (drop s.at b) n t × (i ≡ s.at + n) × (x ≡ put s.out s.used t) × (u ≡ s.used + length t) × (s.used + length t ≤ length s.out)
 took {o = o} {s = s} h k r (TakesRecord.entry {t = t} {n = n} p q) = (n, t, took_entry (o + s.at) (entry_short p) p q, refl, refl, refl, omega (arith, held_short q))
 took {o = o} {b} {s} h k r (TakesRecord.miscounted {t = t} {n} p q) =
-    (n, t, took_miscounted (o + s.at) p (subst (λ (i : ℕ). LineOut (Line'.Refusal (refusal 27 i (pos 0))) t) (min-eq_left (within o s.at (length b) h k)) q), refl, refl, refl, omega (arith, q.short))
+    (n, t, took_miscounted (o + s.at) p (subst (λ (i : ℕ). LineOut (Err (refusal 27 i (pos 0))) t) (min-eq_left (within o s.at (length b) h k)) q), refl, refl, refl, omega (arith, q.short))
   where
     within : (o a b : ℕ) → o + b ≤ most_place → a < b → o + a ≤ most_place
     within o a b h k = omega arith
@@ -218,7 +217,7 @@ module _ {N : Naming} {ends : Bool} {o : ℕ} {b : List ℕ} (h : o + length b �
       }
     where
       ended : {v : List ℕ} (z : List ℕ) → (ends ≡ true → z ≡ []) → Rest N (o + s.at) (drop s.at b ++ z) Stopped.Ended v → Gives N (o + s.at) (drop s.at b ++ z) (t ++ v)
-      ended z c Rest.over = stop_gives q (subst (λ (j : ℕ). LineOut (Line'.Refusal (refusal n j (pos 0))) t) (place_is o s.at p b h x (stops_within q)) g) z c
+      ended z c Rest.over = stop_gives q (subst (λ (j : ℕ). LineOut (Err (refusal n j (pos 0))) t) (place_is o s.at p b h x (stops_within q)) g) z c
   call_gives {s} {e} {w} k i (Imports.goes_on {l = l} {x} {i = a} {u} y r q m) =
       let (n, t, d, j, g, f, c) = took h y r q in
       let on = taken_on y q in

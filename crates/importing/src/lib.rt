@@ -11,7 +11,6 @@ ghost use Rattle.nametable.specs.Promise.{memory};
 ghost use Rattle.catalogue.specs.Promise.{NamesIn};
 ghost use Rattle.linetext.specs.Line.{longest_line};
 ghost use Rattle.linetext.specs.Promise.{LineOut};
-ghost use Rattle.linetext.specs.declared.Line.TheVariants.{Refusal as OfRefusal};
 ghost use Rattle.listing.specs.Promise.{HeldLine};
 ghost use Rattle.listing.specs.Laws.{Wrote};
 ghost use Rattle.importing.specs.Promise.{place_of, import_state, TakesRecord, Imports, progress_of};
@@ -21,7 +20,7 @@ pub use commatext::LONGEST_RECORD;
 use commatext::Scan;
 use linetext::LONGEST_LINE;
 pub use listing::{put_header, put_refused};
-use writer::{Written, buffer};
+use writer::buffer;
 
 // An offset in the file, so many bytes after another. Past the greatest number that an offset can be it stays there; no file is so long.
 pub fn later_place(place: usize, by: usize) -> usize
@@ -48,18 +47,18 @@ fn put_entry(
     ensures { Wrote (HeldLine (NamesIn (memory names.now links.now)) line.now size) out.old used out.new result }
 {
     match listing::list_last(names, links, line, size, out, used) {
-        Written::Done(next) => next,
-        Written::Refused(_) => used,
+        Ok(next) => next,
+        Err(_) => used,
     }
 }
 
 fn put_fault(number: u32, place: usize, out: &mut [u8], used: usize) -> usize
     requires { used + longest_line ≤ length out.old }
-    ensures { Wrote (LineOut (OfRefusal (refusal number place (pos 0)))) out.old used out.new result }
+    ensures { Wrote (LineOut (Err (refusal number place (pos 0)))) out.old used out.new result }
 {
     match put_refused(out, used, refusals::refusal_at(number, place, 0)) {
-        Written::Done(next) => next,
-        Written::Refused(_) => used,
+        Ok(next) => next,
+        Err(_) => used,
     }
 }
 

@@ -1,6 +1,6 @@
 -- From the arithmetic of the conversions to what they promise. A reckoning alone is a calendar with one run of days.
 -- Assumes nothing.
-use Rattle.std.specs.Prelude.{◌≡◌, refl, Bool, ℕ, ◌+◌, ◌-◌, ◌*◌, ◌/◌, ◌%◌, ◌<◌, ◌≤◌, ◌^◌, eqb, ℤ}
+use Rattle.std.specs.Prelude.{◌≡◌, refl, Bool, ℕ, ◌+◌, ◌-◌, ◌*◌, ◌/◌, ◌%◌, ◌<◌, ◌≤◌, ◌^◌, eqb, ℤ, Result, Ok, Err}
 use Rattle.std.proofs.Common.{sym, ◌∙◌, ap, subst, ⊎_elim, arith, add_comm, add-one, eq-eqb, ne_eqb, to_z, of_z}
 use Rattle.std.specs.Int.{w32}
 use Rattle.whole.specs.Tests.{lt_or_ge, eq_or_not}
@@ -16,10 +16,10 @@ use Rattle.days.proofs.ClosedJulian as J
 use Rattle.days.proofs.ClosedGregorian as G
 use Rattle.days.proofs.ReformationTable.{fits_biased}
 use Rattle.days.proofs.ClosedRuns.{Runs, top, julian_runs, gregorian_runs, year_first, first_julian, first_gregorian, year_stretch, year_plain}
-use Rattle.inner.specs.declared.DayNumber.{DayNumber}
-use Rattle.inner.specs.declared.DayNumber.TheVariants as DayNumber'
 use Rattle.inner.specs.Promise.{YearAndOrdinal, OrdinalDay, DayOfOrdinal, numbered, no_such_day, outside_32}
 use Rattle.inner.specs.Natural.{biased_day, biased_year_value, Lowers, within, beyond, OrdinalNumber, off_year, on_year}
+use Rattle.inner.specs.declared.NoNumber.{NoNumber}
+use Rattle.inner.specs.declared.NoNumber.TheVariants as NoNumber'
 
 -- ---- Raised numbers
 
@@ -162,15 +162,15 @@ module _ {c : Calendar} {r : ℕ} {reckoning : Reckoning} {leap_at : ℕ → Boo
           rest e f = omega arith
 
   -- so the answers
-  pub ordinal_answer : {y o s : ℕ} {z : ℤ} {b : Bool} {d : DayNumber} → BiasedYear y → year y ≡ z → b ≡ leap_at y → s ≡ start y → OrdinalNumber b s o d → DayOfOrdinal (labels c) z o d
+  pub ordinal_answer : {y o s : ℕ} {z : ℤ} {b : Bool} {d : Result ℤ NoNumber} → BiasedYear y → year y ≡ z → b ≡ leap_at y → s ≡ start y → OrdinalNumber b s o d → DayOfOrdinal (labels c) z o d
   ordinal_answer {y} {o} {s} {d = d} h e f g n =
       subst (λ (z : ℤ). DayOfOrdinal (labels c) z o d) e (by (subst (λ (s : ℕ). OrdinalNumber (leap_at y) s o d) g (subst (λ (b : Bool). OrdinalNumber b s o d) f n)))
     where
-      lowered_is : {d : DayNumber} → 1 ≤ o → o ≤ year_length (leap_at y) → Lowers (start y + o - 1) d → DayOfOrdinal (labels c) (year y) o d
+      lowered_is : {d : Result ℤ NoNumber} → 1 ≤ o → o ≤ year_length (leap_at y) → Lowers (start y + o - 1) d → DayOfOrdinal (labels c) (year y) o d
       lowered_is u t (within w) = numbered (fits_biased w) (ordinal_day h u t)
       lowered_is u t (beyond b) = outside_32 b (ordinal_day h u t)
 
-      by : {d : DayNumber} → OrdinalNumber (leap_at y) (start y) o d → DayOfOrdinal (labels c) (year y) o d
+      by : {d : Result ℤ NoNumber} → OrdinalNumber (leap_at y) (start y) o d → DayOfOrdinal (labels c) (year y) o d
       by (off_year n) = no_such_day (λ i p. n (ordinal_within_year h p))
       by (on_year u t l) = lowered_is u t l
 
@@ -193,22 +193,22 @@ by_quarters k = record {
     short n = ⊎_elim (λ l. l) (λ g. absurd (n (fourth (4 * k / 1461) (k - 365 * (4 * k / 1461) - 365) (omega arith)))) (lt_or_ge (4 * k % 1461) 1460)
 
 -- ---- A biased day in 32 bits
-pub lowers_below : {k : ℕ} → k < 782_219_326_294 → Lowers k DayNumber'.Outside32
+pub lowers_below : {k : ℕ} → k < 782_219_326_294 → Lowers k (Err NoNumber'.Outside32)
 lowers_below {k} h = beyond (λ f. never (unbias_fits_only day_bias k f))
   where
     never : (day_bias ≤ k + 2 ^ 31) × (k < day_bias + 2 ^ 31) → ⊥
     never p = omega arith
 
-pub lowers_above : {k : ℕ} → 786_514_293_590 ≤ k → Lowers k DayNumber'.Outside32
+pub lowers_above : {k : ℕ} → 786_514_293_590 ≤ k → Lowers k (Err NoNumber'.Outside32)
 lowers_above {k} h = beyond (λ f. never (unbias_fits_only day_bias k f))
   where
     never : (day_bias ≤ k + 2 ^ 31) × (k < day_bias + 2 ^ 31) → ⊥
     never p = omega arith
 
-pub lowers_within : {k : ℕ} {z : ℤ} → 782_219_326_294 ≤ k → k < 786_514_293_590 → z ≡ unbias (2 ^ 31) (k - 782_219_326_294) → Lowers k (DayNumber'.Day (to_z w32 (of_z w32 z)))
+pub lowers_within : {k : ℕ} {z : ℤ} → 782_219_326_294 ≤ k → k < 786_514_293_590 → z ≡ unbias (2 ^ 31) (k - 782_219_326_294) → Lowers k (Ok (to_z w32 (of_z w32 z)))
 lowers_within {k} {z} h g e =
     let w : BiasedDay k = record { from = h; to = g } in
-    subst (λ (z : ℤ). Lowers k (DayNumber'.Day z)) (sym (back (e ∙ same) (fits_biased w))) (within w)
+    subst (λ (z : ℤ). Lowers k (Ok z)) (sym (back (e ∙ same) (fits_biased w))) (within w)
   where
     over : k - 782_219_326_294 + 782_219_326_294 ≡ k
     over = omega arith

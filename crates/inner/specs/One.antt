@@ -1,6 +1,6 @@
 -- A promise of the conversions allows one result.
 -- Assumes nothing.
-use Rattle.std.specs.Prelude.{◌≡◌, refl, Bool, ℕ, ◌+◌, ℤ}
+use Rattle.std.specs.Prelude.{◌≡◌, refl, Bool, ℕ, ◌+◌, ℤ, Result, Ok}
 use Rattle.std.proofs.Common.{sym, ◌∙◌, ap, subst, arith}
 use Rattle.whole.specs.Biased.{unbias_injective}
 use Rattle.days.specs.DayByDay.{Label, Reckoning, Is32Bit}
@@ -8,10 +8,9 @@ use Rattle.days.proofs.RisingLabels.{place_one, nth_one}
 use Rattle.days.specs.BiasedDays.{year_bias}
 use Rattle.days.proofs.ClosedStarts.{Starts, InYear, label_of_lem}
 use Rattle.days.proofs.ReformationTable.{fits_biased}
-use Rattle.inner.specs.declared.DayNumber.{DayNumber}
-use Rattle.inner.specs.declared.DayNumber.TheVariants as DayNumber'
 use Rattle.inner.specs.Promise.{YearAndOrdinal, OrdinalDay, DayOfOrdinal, numbered, no_such_day, outside_32}
 use Rattle.inner.specs.Natural.{biased_year_value, Lowers, within, beyond}
+use Rattle.inner.specs.declared.NoNumber.{NoNumber}
 
 -- a day has one year and one ordinal
 pub year_and_ordinal_one : {f : ℤ → Label} {n y z : ℤ} {o p : ℕ} → YearAndOrdinal f n y o → YearAndOrdinal f n z p → (y ≡ z) × (o ≡ p)
@@ -20,8 +19,8 @@ year_and_ordinal_one a b = (sym a.year_is ∙ b.year_is, place_one a.ordinal_is 
 ordinal_day_one : {f : ℤ → Label} {y n m : ℤ} {o : ℕ} → OrdinalDay f y o n → OrdinalDay f y o m → n ≡ m
 ordinal_day_one a b = nth_one a.of_year_lem a.place b.of_year_lem b.place
 
-pub day_of_ordinal_one : {f : ℤ → Label} {y : ℤ} {o : ℕ} {r s : DayNumber} → DayOfOrdinal f y o r → DayOfOrdinal f y o s → r ≡ s
-day_of_ordinal_one (numbered f a) (numbered g b) = ap DayNumber'.Day (ordinal_day_one a b)
+pub day_of_ordinal_one : {f : ℤ → Label} {y : ℤ} {o : ℕ} {r s : Result ℤ NoNumber} → DayOfOrdinal f y o r → DayOfOrdinal f y o s → r ≡ s
+day_of_ordinal_one (numbered f a) (numbered g b) = ap Ok (ordinal_day_one a b)
 day_of_ordinal_one (numbered f a) (no_such_day n) = absurd (n _ a)
 day_of_ordinal_one (numbered f a) (outside_32 g b) = absurd (g (subst Is32Bit (ordinal_day_one a b) f))
 day_of_ordinal_one (no_such_day n) (numbered g b) = absurd (n _ b)
@@ -46,7 +45,7 @@ in_year_one {start = start} s {k} y z {o} {p} a b =
     rest m n e f g = omega arith
 
 -- a biased day is of 32 bits, or it is not
-pub lowers_one : {k : ℕ} {r s : DayNumber} → Lowers k r → Lowers k s → r ≡ s
+pub lowers_one : {k : ℕ} {r s : Result ℤ NoNumber} → Lowers k r → Lowers k s → r ≡ s
 lowers_one (within h) (within g) = refl
 lowers_one (within h) (beyond n) = absurd (n (fits_biased h))
 lowers_one (beyond n) (within g) = absurd (n (fits_biased g))

@@ -1,8 +1,8 @@
 -- What the conversions promise, in the words of the day-by-day definition.
-use Rattle.std.specs.Prelude.{ℕ, ℤ}
+use Rattle.std.specs.Prelude.{ℕ, ℤ, Result, Ok, Err}
 use Rattle.days.specs.DayByDay.{Label, OfYear, Place, Ordinal, Is32Bit}
-use Rattle.inner.specs.declared.DayNumber.{DayNumber}
-use Rattle.inner.specs.declared.DayNumber.TheVariants as DayNumber'
+use Rattle.inner.specs.declared.NoNumber.{NoNumber}
+use Rattle.inner.specs.declared.NoNumber.TheVariants as NoNumber'
 
 -- day n is of the year y, and has the ordinal o
 pub record YearAndOrdinal (f : ℤ → Label) (n y : ℤ) (o : ℕ) : Type 0 where
@@ -15,7 +15,7 @@ pub record OrdinalDay (f : ℤ → Label) (y : ℤ) (o : ℕ) (n : ℤ) : Type 0
   pub place : Place (λ d. OfYear y (f d)) n o
 
 -- its number; or there is no such day; or its number is outside 32 bits
-pub data DayOfOrdinal (f : ℤ → Label) (y : ℤ) (o : ℕ) : DayNumber → Type 0 where
-  numbered : {n : ℤ} → Is32Bit n → OrdinalDay f y o n → DayOfOrdinal f y o (DayNumber'.Day n)
-  no_such_day : ((n : ℤ) → ¬ OrdinalDay f y o n) → DayOfOrdinal f y o DayNumber'.Nothing
-  outside_32 : {n : ℤ} → ¬ Is32Bit n → OrdinalDay f y o n → DayOfOrdinal f y o DayNumber'.Outside32
+pub data DayOfOrdinal (f : ℤ → Label) (y : ℤ) (o : ℕ) : Result ℤ NoNumber → Type 0 where
+  numbered : {n : ℤ} → Is32Bit n → OrdinalDay f y o n → DayOfOrdinal f y o (Ok n)
+  no_such_day : ((n : ℤ) → ¬ OrdinalDay f y o n) → DayOfOrdinal f y o (Err NoNumber'.Nothing)
+  outside_32 : {n : ℤ} → ¬ Is32Bit n → OrdinalDay f y o n → DayOfOrdinal f y o (Err NoNumber'.Outside32)

@@ -216,22 +216,21 @@ fn decompose_julian(days: u64) -> LongPlace
 
 // ---- From a year and an ordinal to the day number
 
-// The number of the day; that there is no such day; or that 32 bits do not hold its number.
+// Why a year and an ordinal have no day number: there is no such day, or 32 bits do not hold its number.
 #[derive(Clone, Copy)]
-pub enum DayNumber {
-    Day(i32),
+pub enum NoNumber {
     Nothing,
     Outside32,
 }
 
-pub fn julian2jdn(year: i32, ordinal: u32) -> DayNumber
+pub fn julian2jdn(year: i32, ordinal: u32) -> Result<i32, NoNumber>
     ensures { DayOfOrdinal (label_of julian) year ordinal result }
 {
     let y = raised(year);
     ordinal_number(is_julian_leap(y), julian_start(y), ordinal)
 }
 
-pub fn gregorian2jdn(year: i32, ordinal: u32) -> DayNumber
+pub fn gregorian2jdn(year: i32, ordinal: u32) -> Result<i32, NoNumber>
     ensures { DayOfOrdinal (label_of gregorian) year ordinal result }
 {
     let y = raised(year);
@@ -239,15 +238,15 @@ pub fn gregorian2jdn(year: i32, ordinal: u32) -> DayNumber
 }
 
 // The day with this place in a year that starts on a biased day.
-fn ordinal_number(leap: bool, start: u64, ordinal: u32) -> DayNumber
+fn ordinal_number(leap: bool, start: u64, ordinal: u32) -> Result<i32, NoNumber>
     requires { start < 4_000_000_000_000 }
     ensures { OrdinalNumber leap start ordinal result }
 {
     if ordinal < 1 {
-        return DayNumber::Nothing;
+        return Err(NoNumber::Nothing);
     }
     if days_in_year(leap) < ordinal {
-        return DayNumber::Nothing;
+        return Err(NoNumber::Nothing);
     }
     day_number(start + ordinal as u64 - 1)
 }
@@ -269,16 +268,16 @@ pub fn gregorian_start(year: u32) -> u64
 }
 
 // A day that is biased as so much more than its number, in 32 bits.
-pub fn day_number(day: u64) -> DayNumber
+pub fn day_number(day: u64) -> Result<i32, NoNumber>
     ensures { Lowers day result }
 {
     if day < LEAST_DAY {
-        return DayNumber::Outside32;
+        return Err(NoNumber::Outside32);
     }
     if 786_514_293_590 <= day {
-        return DayNumber::Outside32;
+        return Err(NoNumber::Outside32);
     }
-    DayNumber::Day(lowered((day - LEAST_DAY) as u32))
+    Ok(lowered((day - LEAST_DAY) as u32))
 }
 
 // ---- A day with its label

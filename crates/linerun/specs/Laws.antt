@@ -1,10 +1,9 @@
 -- What the proofs need, here and in a program that answers each line by itself.
 -- Assumes nothing.
-use Rattle.std.specs.Prelude.{ℕ, zero, suc, ◌≤◌, ◌<◌, ◌≡◌, refl, Bool, List, length, take, replicate, ℤ}
+use Rattle.std.specs.Prelude.{ℕ, zero, suc, ◌≤◌, ◌<◌, ◌≡◌, refl, Bool, List, length, take, replicate, ℤ, Ok, Err}
 use Rattle.std.proofs.Common.{sym, ◌∙◌, ap, subst, zero-add, arith}
 use Rattle.std.proofs.lemmas.List.{length-replicate}
 use Rattle.writer.specs.Promise.{put, Puts, Writes}
-use Rattle.writer.specs.declared.Written.{Written}
 use Rattle.refusals.specs.declared.Refusal.{Refusal}
 use Rattle.textlines.specs.Lines.{longest_read}
 use Rattle.filter.specs.declared.Phase.TheVariants.{Reading, Closing}
@@ -54,12 +53,12 @@ of_a_line (HeldOut.long h x) = (long_line, x long_line long_is)
 -- ---- for a program: its answer to a line, by what it wrote; and its turn, where the answer of the read was handed on as g
 
 module _ {Out : List ℕ → List ℕ → Type 0} where
-  pub answer_written : {unread unwritten : List ℕ} {l o : List ℕ} {n : ℕ} {o' : List ℕ} {u : ℕ} {s s' : State} → Writes (HeldOut Out l n) o 0 o' (Written.Done u) → s' ≡ with_output_value s u → Answers Out unread unwritten l o (Line n s) o' s'
+  pub answer_written : {unread unwritten : List ℕ} {l o : List ℕ} {n : ℕ} {o' : List ℕ} {u : ℕ} {s s' : State} → Writes (HeldOut Out l n) o 0 o' (Ok u) → s' ≡ with_output_value s u → Answers Out unread unwritten l o (Line n s) o' s'
   answer_written {unread} {unwritten} {l} {o} {n} {s = s} (Writes.writes {t} p (Puts.done h)) e = subst (Answers Out unread unwritten l o (Line n s) (put o 0 t)) (sym (e ∙ ap (with_output_value s) (zero-add (length t)))) (Answers.answer p)
 
   pub goes : {unread unwritten : List ℕ} {b l o : List ℕ} {s : State} (w : Bool) {g z : ℤ} {l' o' : List ℕ} {q r : Turn} {s' : State} → g ≡ z → NextTurn b l s (event_of s w g) l' q → q ≡ r → Answers Out unread unwritten l' o r o' s' → GoesOn Out unread unwritten b l o s (event_of s w z) l' o' s'
   goes {unread} {unwritten} {b} {l} {o} {s} w {l' = l'} {o'} {s' = s'} d x f y = subst (λ (v : ℤ). GoesOn Out unread unwritten b l o s (event_of s w v) l' o' s') d (GoesOn.goes_on x (subst (λ (v : Turn). Answers Out unread unwritten l' o v o' s') (sym f) y))
 
   -- where no answer is longer than the output, none is refused
-  pub answer_fits : {l o : List ℕ} {n : ℕ} {o' : List ℕ} {f : Refusal} → ((p t : List ℕ) → Out p t → length t ≤ length o) → Writes (HeldOut Out l n) o 0 o' (Written.Refused f) → ⊥
+  pub answer_fits : {l o : List ℕ} {n : ℕ} {o' : List ℕ} {f : Refusal} → ((p t : List ℕ) → Out p t → length t ≤ length o) → Writes (HeldOut Out l n) o 0 o' (Err f) → ⊥
   answer_fits fits (Writes.writes {t} x (Puts.short h)) = let (p, y) = of_a_line x in omega (arith, fits p t y)

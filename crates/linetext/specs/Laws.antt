@@ -1,5 +1,5 @@
 -- Numbers written one after another into a lent buffer, and a whole line of them.
-use Rattle.std.specs.Prelude.{ℕ, suc, ◌+◌, ◌-◌, ◌*◌, ◌/◌, ◌%◌, ◌≤◌, ◌<◌, ◌^◌, ◌≡◌, refl, Bool, true, false, List, [], ◌∷◌, ◌++◌, length, take, drop, ℤ, pos, nat_abs}
+use Rattle.std.specs.Prelude.{ℕ, suc, ◌+◌, ◌-◌, ◌*◌, ◌/◌, ◌%◌, ◌≤◌, ◌<◌, ◌^◌, ◌≡◌, refl, Bool, true, false, List, [], ◌∷◌, ◌++◌, length, take, drop, ℤ, pos, nat_abs, Result, Ok, Err, Some, None}
 use Rattle.std.proofs.Common.{sym, ◌∙◌, ap, ap₂, subst, append_assoc, arith, length-append, take_at}
 use Rattle.whole.specs.Promise.{is_negative_value}
 use Rattle.refusals.specs.Promise.{refusal}
@@ -8,14 +8,11 @@ use Rattle.refusals.specs.declared.Refusal.{Refusal}
 use Rattle.writer.specs.Promise.{Copies, copied, no_room, digits_of, WholeDecimal, Puts, Writes, Signs}
 use Rattle.writer.specs.Laws.{PutText, length_digits, width_few, decimal_of, counting_start, counting_step, wrote, left_alone, whole_text_lem}
 use Rattle.writer.proofs.PutLaws.{put_on}
-use Rattle.writer.specs.declared.buffer.Copied.{Copied}
-use Rattle.writer.specs.declared.Written.{Written}
 use Rattle.linetext.specs.Line.{longest_line, mark, Columns, letters, number_columns, refusal_columns, of_numbers, of_refusal, Ended, ended}
 use Rattle.whole.specs.Text.{newline, tab}
 use Rattle.linetext.specs.Promise.{LineOut}
 use Rattle.linetext.specs.declared.LineNumbers.{LineNumbers}
-use Rattle.linetext.specs.declared.Line.{Line}
-use Rattle.linetext.specs.declared.Line.TheVariants as Line'
+use Rattle.datetext.specs.declared.Text.{Text}
 
 -- ---- a text of at most m bytes, as IsText says, stands in the buffer from `at` on, and every other byte is as it was; i is the offset after it
 
@@ -140,17 +137,17 @@ put_eight {n} h l t s = text_as (text_then t (put_text {P = λ (v : List ℕ). v
 
 -- a number that was put with room for twenty digits
 module _ {n : ℕ} {b : List ℕ} {at : ℕ} (fits : n < 2 ^ 64) where
-  pub large_done : {b' : List ℕ} {i : ℕ} → Writes (Signs false n) b at b' (Written.Done i) → Text (Signs false n) 20 b at b' i
+  pub large_done : {b' : List ℕ} {i : ℕ} → Writes (Signs false n) b at b' (Ok i) → Text (Signs false n) 20 b at b' i
   large_done (Writes.writes (Signs.signs {k} w) p) = by p
     where
-      by : {c : List ℕ} {j : ℕ} → Puts (digits_of k n) b at c (Written.Done j) → Text (Signs false n) 20 b at c j
+      by : {c : List ℕ} {j : ℕ} → Puts (digits_of k n) b at c (Ok j) → Text (Signs false n) 20 b at c j
       by (Puts.done h) =
           record { text = digits_of k n; is = Signs.signs w; short = omega (arith, length_digits k n, width_few w fits); put = record { is = refl; offset = refl } }
 
-  pub large_never : {b' : List ℕ} {f : Refusal} → at + 20 ≤ length b → Writes (Signs false n) b at b' (Written.Refused f) → ⊥
+  pub large_never : {b' : List ℕ} {f : Refusal} → at + 20 ≤ length b → Writes (Signs false n) b at b' (Err f) → ⊥
   large_never {b'} {f} h (Writes.writes (Signs.signs {k} w) p) = by p
     where
-      by : {c : List ℕ} {g : Refusal} → Puts (digits_of k n) b at c (Written.Refused g) → ⊥
+      by : {c : List ℕ} {g : Refusal} → Puts (digits_of k n) b at c (Err g) → ⊥
       by (Puts.short l) = omega (arith, length_digits k n, width_few w fits)
 
 -- a sign, and the digits
@@ -230,32 +227,32 @@ letters_after w {x} h c s = text_then c (put_text {P = λ (v : List ℕ). v ≡ 
 
 -- ---- a line of output
 
-abbrev pub LinePut : Line → List ℕ → ℕ → List ℕ → ℕ → Type 0
+abbrev pub LinePut : Result LineNumbers Refusal → List ℕ → ℕ → List ℕ → ℕ → Type 0
 LinePut l = Text (Ended l) longest_line
 
-pub numbers_line : {r : LineNumbers} {b : List ℕ} {at : ℕ} {b' : List ℕ} {i : ℕ} → CellsOf (tab ∷ last_letters r.style) (number_columns r) longest_line b at b' i → LinePut (Line'.Numbers r) b at b' i
+pub numbers_line : {r : LineNumbers} {b : List ℕ} {at : ℕ} {b' : List ℕ} {i : ℕ} → CellsOf (tab ∷ last_letters r.style) (number_columns r) longest_line b at b' i → LinePut (Ok r) b at b' i
 numbers_line {r} t = text_as t by (omega arith)
   where
-    by : (u : List ℕ) → Cells (tab ∷ last_letters r.style) (number_columns r) u → Ended (Line'.Numbers r) u
-    by u (cells {t} c) = subst (Ended (Line'.Numbers r)) (append_assoc t (tab ∷ letters r.style) (newline ∷ [])) (ended (of_numbers c))
+    by : (u : List ℕ) → Cells (tab ∷ last_letters r.style) (number_columns r) u → Ended (Ok r) u
+    by u (cells {t} c) = subst (Ended (Ok r)) (append_assoc t (tab ∷ letters r.style) (newline ∷ [])) (ended (of_numbers c))
 
-pub refusal_line : {f : Refusal} {b : List ℕ} {at : ℕ} {b₁ b₂ b₃ : List ℕ} {i j k : ℕ} → at + 68 ≤ length b → PutText b at (mark ∷ []) b₁ i → PutText b₁ i (tab ∷ []) b₂ j → CellsOf (newline ∷ []) (refusal_columns f) 66 b₂ j b₃ k → LinePut (Line'.Refusal f) b at b₃ k
+pub refusal_line : {f : Refusal} {b : List ℕ} {at : ℕ} {b₁ b₂ b₃ : List ℕ} {i j k : ℕ} → at + 68 ≤ length b → PutText b at (mark ∷ []) b₁ i → PutText b₁ i (tab ∷ []) b₂ j → CellsOf (newline ∷ []) (refusal_columns f) 66 b₂ j b₃ k → LinePut (Err f) b at b₃ k
 refusal_line {f} h s t r = text_as (text_then (put_text {P = λ (v : List ℕ). v ≡ mark ∷ (tab ∷ [])} {m = 2} refl (omega arith) (put_on s (tab ∷ []) (omega arith) t)) r both (omega arith)) (λ u p. p) (omega arith)
   where
-    both : (u v : List ℕ) → u ≡ mark ∷ (tab ∷ []) → Cells (newline ∷ []) (refusal_columns f) v → Ended (Line'.Refusal f) (u ++ v)
-    both u v e (cells c) = subst (λ (y : List ℕ). Ended (Line'.Refusal f) (y ++ v)) (sym e) (ended (of_refusal c))
+    both : (u v : List ℕ) → u ≡ mark ∷ (tab ∷ []) → Cells (newline ∷ []) (refusal_columns f) v → Ended (Err f) (u ++ v)
+    both u v e (cells c) = subst (λ (y : List ℕ). Ended (Err f) (y ++ v)) (sym e) (ended (of_refusal c))
 
 -- ---- the same by equal values
 
 pub column_as : {x y : ℤ} {after : ℕ} {b : List ℕ} {at : ℕ} {b' : List ℕ} {i : ℕ} → x ≡ y → Column x after b at b' i → Column y after b at b' i
 column_as {after = after} {b} {at} {b'} {i} e = subst (λ (z : ℤ). Column z after b at b' i) e
 
-pub line_as : {l k : Line} {b : List ℕ} {at : ℕ} {b' : List ℕ} {i : ℕ} → l ≡ k → LinePut k b at b' i → LinePut l b at b' i
-line_as {b = b} {at} {b'} {i} e = subst (λ (m : Line). LinePut m b at b' i) (sym e)
+pub line_as : {l k : Result LineNumbers Refusal} {b : List ℕ} {at : ℕ} {b' : List ℕ} {i : ℕ} → l ≡ k → LinePut k b at b' i → LinePut l b at b' i
+line_as {b = b} {at} {b'} {i} e = subst (λ (m : Result LineNumbers Refusal). LinePut m b at b' i) (sym e)
 
 -- the columns of a day, whose first two are signed
 pub numbers_columns : {r : LineNumbers} {x y : ℤ} {b : List ℕ} {at : ℕ} {b₁ b₂ b₃ : List ℕ} {i₁ i₂ i₃ : ℕ} → at + longest_line ≤ length b → length b ≤ length b₁ → x ≡ r.jdn → y ≡ r.year
-    → Column x tab b at b₁ i₁ → Column y tab b₁ i₁ b₂ i₂ → CellsOf (tab ∷ last_letters r.style) (pos r.ordinal ∷ pos r.month ∷ pos r.day ∷ pos r.weekday ∷ []) 91 b₂ i₂ b₃ i₃ → LinePut (Line'.Numbers r) b at b₃ i₃
+    → Column x tab b at b₁ i₁ → Column y tab b₁ i₁ b₂ i₂ → CellsOf (tab ∷ last_letters r.style) (pos r.ordinal ∷ pos r.month ∷ pos r.day ∷ pos r.weekday ∷ []) 91 b₂ i₂ b₃ i₃ → LinePut (Ok r) b at b₃ i₃
 numbers_columns {r} h l e f c₁ c₂ t = numbers_line {r = r} (cell_before {m = 113} (omega arith) (column_as e c₁) (cell_before {m = 91} (omega (arith, ends c₁)) (column_as f c₂) t))
 
 -- ---- a text made at the front of a buffer of its own
@@ -271,23 +268,23 @@ module _ {P : List ℕ → Type 0} {m : ℕ} {z z' : List ℕ} {n : ℕ} (t : Te
   apart_part = apart_long ∙ sym (ap length apart_is)
 
   -- it has room, and was copied; or it has not
-  pub apart_done : {b : List ℕ} {at : ℕ} {b' : List ℕ} {i : ℕ} → Copies (take n z') b at b' (Copied.To i) → Writes P b at b' (Written.Done i)
-  apart_done {b} {at} {b'} {i} c = by (subst (λ (u : List ℕ). Copies u b at b' (Copied.To i)) apart_is c)
+  pub apart_done : {b : List ℕ} {at : ℕ} {b' : List ℕ} {i : ℕ} → Copies (take n z') b at b' (Some i) → Writes P b at b' (Ok i)
+  apart_done {b} {at} {b'} {i} c = by (subst (λ (u : List ℕ). Copies u b at b' (Some i)) apart_is c)
     where
-      by : {c : List ℕ} {j : ℕ} → Copies t.text b at c (Copied.To j) → Writes P b at c (Written.Done j)
+      by : {c : List ℕ} {j : ℕ} → Copies t.text b at c (Some j) → Writes P b at c (Ok j)
       by (copied h) = Writes.writes t.is (Puts.done h)
 
-  pub apart_left : {b : List ℕ} {at : ℕ} {b' : List ℕ} {f : Refusal} → Copies (take n z') b at b' Copied.NoRoom → f ≡ refusal 18 0 (pos n) → Writes P b at b' (Written.Refused f)
-  apart_left {b} {at} {b'} {f} c g = by (subst (λ (u : List ℕ). Copies u b at b' Copied.NoRoom) apart_is c)
+  pub apart_left : {b : List ℕ} {at : ℕ} {b' : List ℕ} {f : Refusal} → Copies (take n z') b at b' None → f ≡ refusal 18 0 (pos n) → Writes P b at b' (Err f)
+  apart_left {b} {at} {b'} {f} c g = by (subst (λ (u : List ℕ). Copies u b at b' None) apart_is c)
     where
-      by : {c : List ℕ} → Copies t.text b at c Copied.NoRoom → Writes P b at c (Written.Refused f)
+      by : {c : List ℕ} → Copies t.text b at c None → Writes P b at c (Err f)
       by (no_room h) = left_alone t.text t.is apart_long h g
 
-pub text_wrote : {P : List ℕ → Type 0} {m : ℕ} {b : List ℕ} {at : ℕ} {b' : List ℕ} {i : ℕ} → at + m ≤ length b → Text P m b at b' i → Writes P b at b' (Written.Done i)
+pub text_wrote : {P : List ℕ → Type 0} {m : ℕ} {b : List ℕ} {at : ℕ} {b' : List ℕ} {i : ℕ} → at + m ≤ length b → Text P m b at b' i → Writes P b at b' (Ok i)
 text_wrote h t = wrote t.is (omega (arith, t.short)) t.put
 
 -- ---- what the public writers promise
 
 -- a line with its length
-pub lined : {l : Line} {b : List ℕ} {at : ℕ} {b' : List ℕ} {i : ℕ} → LinePut l b at b' i → Text (LineOut l) longest_line b at b' i
+pub lined : {l : Result LineNumbers Refusal} {b : List ℕ} {at : ℕ} {b' : List ℕ} {i : ℕ} → LinePut l b at b' i → Text (LineOut l) longest_line b at b' i
 lined t = record { text = t.text; is = record { is = t.is; short = t.short }; short = t.short; put = t.put }

@@ -1,11 +1,9 @@
 -- A line of the listing: the numbers of a day and the letters of its style, or the numbers of a refusal, in columns.
-use Rattle.std.specs.Prelude.{ℕ, ◌/◌, ◌%◌, List, [], ◌∷◌, ◌++◌, ℤ, pos}
+use Rattle.std.specs.Prelude.{ℕ, ◌/◌, ◌%◌, List, [], ◌∷◌, ◌++◌, ℤ, pos, Result, Ok, Err}
 use Rattle.whole.specs.Text.{tab, newline}
 use Rattle.refusals.specs.declared.Refusal.{Refusal}
 use Rattle.writer.specs.Promise.{WholeDecimal}
 use Rattle.linetext.specs.declared.LineNumbers.{LineNumbers}
-use Rattle.linetext.specs.declared.Line.{Line}
-use Rattle.linetext.specs.declared.Line.TheVariants as Line'
 
 -- the mark of a refusal, `!`
 abbrev pub mark : ℕ
@@ -31,10 +29,10 @@ number_columns r = r.jdn ∷ r.year ∷ pos r.ordinal ∷ pos r.month ∷ pos r.
 abbrev pub refusal_columns : Refusal → List ℤ
 refusal_columns f = pos f.number ∷ pos f.place ∷ f.value ∷ []
 
-pub data LineText : Line → List ℕ → Type 0 where
-  of_numbers : {r : LineNumbers} {t : List ℕ} → Columns (number_columns r) t → LineText (Line'.Numbers r) (t ++ (tab ∷ letters r.style))
-  of_refusal : {f : Refusal} {t : List ℕ} → Columns (refusal_columns f) t → LineText (Line'.Refusal f) (mark ∷ (tab ∷ t))
+pub data LineText : Result LineNumbers Refusal → List ℕ → Type 0 where
+  of_numbers : {r : LineNumbers} {t : List ℕ} → Columns (number_columns r) t → LineText (Ok r) (t ++ (tab ∷ letters r.style))
+  of_refusal : {f : Refusal} {t : List ℕ} → Columns (refusal_columns f) t → LineText (Err f) (mark ∷ (tab ∷ t))
 
 -- with the newline after it
-pub data Ended (l : Line) : List ℕ → Type 0 where
+pub data Ended (l : Result LineNumbers Refusal) : List ℕ → Type 0 where
   ended : {t : List ℕ} → LineText l t → Ended l (t ++ (newline ∷ []))

@@ -8,14 +8,12 @@ ghost use Rattle.std.specs.Prelude.{◌≡◌, [], ◌∷◌, false, ◌+◌, �
 ghost use Rattle.whole.specs.Text.{tab};
 ghost use Rattle.writer.specs.Laws.{PutText};
 ghost use Rattle.writer.specs.Promise.{digits_of, Writes, Signs};
-ghost use Rattle.linetext.specs.declared.Line.TheVariants.{Numbers as OfNumbers, Refusal as OfRefusal};
 ghost use Rattle.linetext.specs.Line.{longest_line};
 ghost use Rattle.linetext.specs.Promise.{LineOut};
 ghost use Rattle.linetext.specs.Laws.{Text, Column, CellsOf, last_letters, LinePut};
 
 use refusals::Refusal;
-use writer::buffer::Copied;
-use writer::{Written, buffer};
+use writer::buffer;
 
 // The longest line of output: six columns of at most 20 digits, a sign and the byte after them, two letters and a newline.
 pub const LONGEST_LINE: usize = 135;
@@ -31,13 +29,6 @@ pub struct LineNumbers {
     pub day: u64,
     pub weekday: u64,
     pub style: u64,
-}
-
-// What stands in a line.
-#[derive(Clone, Copy)]
-pub enum Line {
-    Numbers(LineNumbers),
-    Refusal(Refusal),
 }
 
 // ---- numbers in columns. Each function writes from `at` on, and answers the offset after what it wrote.
@@ -108,8 +99,8 @@ fn put_large(out: &mut [u8], at: usize, n: u64) -> usize
     ensures { Text (Signs false n) 20 out.old at out.new result }
 {
     match writer::put_at(out, at, false, n) {
-        Written::Done(next) => next,
-        Written::Refused(_) => at,
+        Ok(next) => next,
+        Err(_) => at,
     }
 }
 
@@ -229,7 +220,7 @@ fn put_last_five(
 // The line of a day.
 fn put_numbers(out: &mut [u8], at: usize, numbers: LineNumbers) -> usize
     requires { at + longest_line ≤ length out.old }
-    ensures { LinePut (OfNumbers numbers) out.old at out.new result }
+    ensures { LinePut (Ok numbers) out.old at out.new result }
 {
     let second = put_integer(out, at, numbers.jdn, b'\t');
     let third = put_year(out, second, numbers.year, b'\t');
@@ -247,7 +238,7 @@ fn put_numbers(out: &mut [u8], at: usize, numbers: LineNumbers) -> usize
 // The line of a refusal, with its mark.
 fn put_refusal(out: &mut [u8], at: usize, why: Refusal) -> usize
     requires { at + longest_line ≤ length out.old }
-    ensures { LinePut (OfRefusal why) out.old at out.new result }
+    ensures { LinePut (Err why) out.old at out.new result }
 {
     let mark = put_byte(out, at, b'!');
     let number = put_byte(out, mark, b'\t');
@@ -256,37 +247,37 @@ fn put_refusal(out: &mut [u8], at: usize, why: Refusal) -> usize
     put_integer(out, value, why.value, b'\n')
 }
 
-fn put_either(out: &mut [u8], at: usize, line: Line) -> usize
+fn put_either(out: &mut [u8], at: usize, line: Result<LineNumbers, Refusal>) -> usize
     requires { at + longest_line ≤ length out.old }
     ensures { LinePut line out.old at out.new result }
 {
     match line {
-        Line::Numbers(numbers) => put_numbers(out, at, numbers),
-        Line::Refusal(why) => put_refusal(out, at, why),
+        Ok(numbers) => put_numbers(out, at, numbers),
+        Err(why) => put_refusal(out, at, why),
     }
 }
 
 // ---- a line with or without room for it
 
 // Where there may be no room, the text is made in a buffer of its own first, so that a buffer too short for it stays as it was.
-fn put_apart(out: &mut [u8], at: usize, line: Line) -> Written
+fn put_apart(out: &mut [u8], at: usize, line: Result<LineNumbers, Refusal>) -> Result<usize, Refusal>
     ensures { Writes (LineOut line) out.old at out.new result }
 {
     let mut apart = [0u8; LONGEST_LINE];
     let size = put_either(&mut apart, 0, line);
     match buffer::copy_text(out, at, &apart[..size]) {
-        Copied::To(end) => Written::Done(end),
-        Copied::NoRoom => Written::Refused(refusals::refusal_with(18, size as u32)),
+        Some(end) => Ok(end),
+        None => Err(refusals::refusal_with(18, size as u32)),
     }
 }
 
 // The line, with its newline.
-pub fn put_line(out: &mut [u8], at: usize, line: Line) -> Written
+pub fn put_line(out: &mut [u8], at: usize, line: Result<LineNumbers, Refusal>) -> Result<usize, Refusal>
     ensures { Writes (LineOut line) out.old at out.new result }
 {
     if buffer::has_room(out.len(), at, LONGEST_LINE) {
         let end = put_either(out, at, line);
-        return Written::Done(end);
+        return Ok(end);
     }
     put_apart(out, at, line)
 }

@@ -1,18 +1,14 @@
 -- What the proofs need: how a line is held and written, and how a block is cut into lines.
 -- Assumes nothing.
-use Rattle.std.specs.Prelude.{ℕ, ◌+◌, ◌≤◌, ◌<◌, ◌≡◌, refl, List, [], length, take, pos}
+use Rattle.std.specs.Prelude.{ℕ, ◌+◌, ◌≤◌, ◌<◌, ◌≡◌, refl, List, [], length, take, pos, Result, Ok, Err}
 use Rattle.std.proofs.Common.{sym, subst, ◌∙◌, arith}
 use Rattle.writer.specs.Promise.{Writes, put, Puts}
 use Rattle.writer.specs.Laws.{wrote, left_alone}
 use Rattle.writer.proofs.PutLaws.{put_none, length_put}
-use Rattle.writer.specs.declared.Written.{Written}
 use Rattle.refusals.specs.Promise.{refusal as textRefusal}
 use Rattle.refusals.specs.declared.Refusal.{Refusal}
 use Rattle.linetext.specs.Line.{longest_line}
 use Rattle.linetext.specs.Promise.{LineOut}
-use Rattle.linetext.specs.declared.Line.{Line}
-use Rattle.calendar.specs.declared.Dated.{Dated}
-use Rattle.calendar.specs.declared.Chosen.{Chosen}
 use Rattle.textlines.specs.Promise.{TakesLine}
 use Rattle.textlines.specs.Laws.{rest_grows, line_grows}
 use Rattle.entry.specs.Entry.{longest_entry}
@@ -21,10 +17,13 @@ use Rattle.entry.specs.Laws.{answer_also}
 use Rattle.columns.specs.Columns.{line_of}
 use Rattle.listing.specs.Promise.{HeldAnswer, HeldAs, HeldLine, LastLine, BlockState, block_state, NextLine, Lists}
 use Rattle.listing.specs.Lines.{Listed, listed, AllListed}
+use Rattle.calendar.specs.declared.Calendar.{Calendar}
+use Rattle.calendar.specs.declared.Date.{Date}
+use Rattle.linetext.specs.declared.LineNumbers.{LineNumbers}
 
 -- ---- the line that is held
 
-pub answered_short : {l : List ℕ} {n : ℕ} {a : Dated} {m : Line} {N : Naming} → n ≤ longest_entry → LineAnswer N (take n l) a → m ≡ line_of a → HeldAs N l n m
+pub answered_short : {l : List ℕ} {n : ℕ} {a : Result Date Refusal} {m : Result LineNumbers Refusal} {N : Naming} → n ≤ longest_entry → LineAnswer N (take n l) a → m ≡ line_of a → HeldAs N l n m
 answered_short {l} {n} {N = N} h q e = subst (HeldAs N l n) (sym e) (HeldAs.held_as (HeldAnswer.short h q))
 
 pub held_short : {l : List ℕ} {n : ℕ} {t : List ℕ} {N : Naming} → HeldLine N l n t → length t ≤ longest_line
@@ -36,13 +35,13 @@ none_is : {l : List ℕ} {n : ℕ} {N : Naming} → n ≤ 0 → LastLine N l n [
 none_is {l} {n} {N} h = let e : 0 ≡ n = omega arith in subst (λ (k : ℕ). LastLine N l k []) e LastLine.no_more
 
 module _ {l : List ℕ} {n : ℕ} {b : List ℕ} {at : ℕ} where
-  pub last_held : {m : Line} {b' : List ℕ} {r : Written} {N : Naming} → 0 < n → HeldAs N l n m → Writes (LineOut m) b at b' r → Writes (LastLine N l n) b at b' r
+  pub last_held : {m : Result LineNumbers Refusal} {b' : List ℕ} {r : Result ℕ Refusal} {N : Naming} → 0 < n → HeldAs N l n m → Writes (LineOut m) b at b' r → Writes (LastLine N l n) b at b' r
   last_held h (HeldAs.held_as g) (Writes.writes t p) = Writes.writes (LastLine.one_more h (HeldLine.held_line g t)) p
 
-  pub last_none : {N : Naming} → n ≤ 0 → at + 0 ≤ length b → Writes (LastLine N l n) b at b (Written.Done at)
+  pub last_none : {N : Naming} → n ≤ 0 → at + 0 ≤ length b → Writes (LastLine N l n) b at b (Ok at)
   last_none h k = wrote (none_is h) k (record { is = sym (put_none b at); offset = omega arith })
 
-  pub last_left : {f : Refusal} {N : Naming} → n ≤ 0 → length b < at + 0 → f ≡ textRefusal 18 0 (pos 0) → Writes (LastLine N l n) b at b (Written.Refused f)
+  pub last_left : {f : Refusal} {N : Naming} → n ≤ 0 → length b < at + 0 → f ≡ textRefusal 18 0 (pos 0) → Writes (LastLine N l n) b at b (Err f)
   last_left h k e = left_alone [] (none_is h) refl k e
 
 -- ---- a text as IsText says was put into b at `at`, and i is the offset after it
@@ -50,10 +49,10 @@ module _ {l : List ℕ} {n : ℕ} {b : List ℕ} {at : ℕ} where
 pub data Wrote (IsText : List ℕ → Type 0) (b : List ℕ) (at : ℕ) : List ℕ → ℕ → Type 0 where
   wrote_it : {t : List ℕ} → IsText t → at + length t ≤ length b → Wrote IsText b at (put b at t) (at + length t)
 
-pub held_wrote : {l : List ℕ} {n : ℕ} {m : Line} {b : List ℕ} {at : ℕ} {b' : List ℕ} {i : ℕ} {N : Naming} → HeldAs N l n m → Writes (LineOut m) b at b' (Written.Done i) → Wrote (HeldLine N l n) b at b' i
+pub held_wrote : {l : List ℕ} {n : ℕ} {m : Result LineNumbers Refusal} {b : List ℕ} {at : ℕ} {b' : List ℕ} {i : ℕ} {N : Naming} → HeldAs N l n m → Writes (LineOut m) b at b' (Ok i) → Wrote (HeldLine N l n) b at b' i
 held_wrote (HeldAs.held_as h) (Writes.writes x (Puts.done k)) = wrote_it (HeldLine.held_line h x) k
 
-pub held_room : {m : Line} {b : List ℕ} {at : ℕ} {b' : List ℕ} {f : Refusal} → at + longest_line ≤ length b → Writes (LineOut m) b at b' (Written.Refused f) → ⊥
+pub held_room : {m : Result LineNumbers Refusal} {b : List ℕ} {at : ℕ} {b' : List ℕ} {f : Refusal} → at + longest_line ≤ length b → Writes (LineOut m) b at b' (Err f) → ⊥
 held_room k (Writes.writes x (Puts.short s)) = omega (arith, x.short)
 
 -- ---- one line of the block, or what the block has of it
@@ -100,15 +99,15 @@ lists_grow (Lists.goes_on h r w l) i k = omega (arith, next_grows w h, lists_on 
 
 -- ---- what is written for a line
 
-pub listed_as : {l : List ℕ} {a : Dated} {b : List ℕ} {at : ℕ} {b' : List ℕ} {r : Written} {N : Naming} → LineAnswer N l a → Writes (LineOut (line_of a)) b at b' r → Writes (Listed N l) b at b' r
+pub listed_as : {l : List ℕ} {a : Result Date Refusal} {b : List ℕ} {at : ℕ} {b' : List ℕ} {r : Result ℕ Refusal} {N : Naming} → LineAnswer N l a → Writes (LineOut (line_of a)) b at b' r → Writes (Listed N l) b at b' r
 listed_as q (Writes.writes t p) = Writes.writes (listed q t.is) p
 
 -- what was written lies in the buffer
-pub wrote_inside : {P : List ℕ → Type 0} {b : List ℕ} {at : ℕ} {b' : List ℕ} {i : ℕ} → Writes P b at b' (Written.Done i) → i ≤ length b'
+pub wrote_inside : {P : List ℕ → Type 0} {b : List ℕ} {at : ℕ} {b' : List ℕ} {i : ℕ} → Writes P b at b' (Ok i) → i ≤ length b'
 wrote_inside {b = b} {at} (Writes.writes {t} x (Puts.done h)) = omega (arith, length_put b at t h)
 
 -- where whatever N says of a name M says too, lines listed by N are listed by M
-module _ {N M : Naming} (also : (s : List ℕ) (a : Chosen) → N s a → M s a) where
+module _ {N M : Naming} (also : (s : List ℕ) (a : Result Calendar Refusal) → N s a → M s a) where
   pub listed_also : {l t : List ℕ} → Listed N l t → Listed M l t
   listed_also (listed q x) = listed (answer_also also q) x
 

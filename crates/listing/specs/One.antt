@@ -1,10 +1,9 @@
 -- Two results that a promise of the listing allows for one input are equal, where a name has one answer; and a catalogue and an input have one listing.
 -- Assumes nothing.
-use Rattle.std.specs.Prelude.{ℕ, ◌+◌, ◌≡◌, refl, List, ◌++◌, length, take}
+use Rattle.std.specs.Prelude.{ℕ, ◌+◌, ◌≡◌, refl, List, ◌++◌, length, take, Result, Err}
 use Rattle.std.proofs.Common.{sym, ap, subst, ◌∙◌, ap₂, arith}
 use Rattle.refusals.specs.declared.Refusal.{Refusal}
 use Rattle.calendar.specs.RowLaws.{One}
-use Rattle.calendar.specs.declared.Dated.{Dated}
 use Rattle.bytesearch.specs.One.{never}
 use Rattle.nametable.specs.Houses.{House}
 use Rattle.catalogue.specs.Catalogue.{catalogue, refused_by, NamesWith}
@@ -12,10 +11,7 @@ use Rattle.catalogue.proofs.One.{means_one}
 use Rattle.catalogue.proofs.Theorems.{names_with_one}
 use Rattle.writer.specs.Promise.{put, Writes}
 use Rattle.writer.specs.One.{writes_one}
-use Rattle.writer.specs.declared.Written.{Written}
 use Rattle.entry.specs.One.{line_answer_one}
-use Rattle.linetext.specs.declared.Line.{Line}
-use Rattle.linetext.specs.declared.Line.TheVariants as Line'
 use Rattle.linetext.specs.One.{ended_one}
 use Rattle.columns.specs.Columns.{line_of, header}
 use Rattle.columns.specs.One.{ended_same}
@@ -24,6 +20,8 @@ use Rattle.textlines.specs.One.{lines_one, takes_rest_one, takes_line_one, rest_
 use Rattle.linetext.specs.Line.{Ended}
 use Rattle.listing.specs.Promise.{HeldAnswer, HeldAs, HeldLine, LastLine, BlockState, block_state, NextLine, Lists}
 use Rattle.listing.specs.Lines.{Listed, listed, AllListed, Listing, listing, refused}
+use Rattle.calendar.specs.declared.Date.{Date}
+use Rattle.linetext.specs.declared.LineNumbers.{LineNumbers}
 
 -- ---- states that are the same in each of their parts
 
@@ -34,13 +32,13 @@ same_state {at} {at'} {l} {l'} {n} {n'} {o} {o'} {u} {u'} a b c d e =
 module _ {N : Naming} (names_one : (s : List ℕ) → One (N s)) where
   -- ---- the line that is held
 
-  held_answer_one : {l : List ℕ} {n : ℕ} {a c : Dated} → HeldAnswer N l n a → HeldAnswer N l n c → a ≡ c
+  held_answer_one : {l : List ℕ} {n : ℕ} {a c : Result Date Refusal} → HeldAnswer N l n a → HeldAnswer N l n c → a ≡ c
   held_answer_one {l} {n} {a} {c} (HeldAnswer.short h p) (HeldAnswer.short k q) = line_answer_one names_one (take n l) a c p q
   held_answer_one (HeldAnswer.short h p) (HeldAnswer.long k) = absurd (omega arith)
   held_answer_one (HeldAnswer.long h) (HeldAnswer.short k q) = absurd (omega arith)
   held_answer_one (HeldAnswer.long h) (HeldAnswer.long k) = refl
 
-  pub held_as_one : {l : List ℕ} {n : ℕ} {m k : Line} → HeldAs N l n m → HeldAs N l n k → m ≡ k
+  pub held_as_one : {l : List ℕ} {n : ℕ} {m k : Result LineNumbers Refusal} → HeldAs N l n m → HeldAs N l n k → m ≡ k
   held_as_one (HeldAs.held_as p) (HeldAs.held_as q) = ap line_of (held_answer_one p q)
 
   pub held_line_one : {l m : List ℕ} {n k : ℕ} {t u : List ℕ} → l ≡ m → n ≡ k → HeldLine N l n t → HeldLine N m k u → t ≡ u
@@ -53,12 +51,12 @@ module _ {N : Naming} (names_one : (s : List ℕ) → One (N s)) where
   last_line_one (LastLine.one_more h p) LastLine.no_more = absurd (omega arith)
   last_line_one (LastLine.one_more h p) (LastLine.one_more k q) = held_line_one refl refl p q
 
-  pub list_last_one : {l : List ℕ} {n : ℕ} {b b₁ b₂ : List ℕ} {at : ℕ} {r₁ r₂ : Written} → Writes (LastLine N l n) b at b₁ r₁ → Writes (LastLine N l n) b at b₂ r₂ → (b₁ ≡ b₂) × (r₁ ≡ r₂)
+  pub list_last_one : {l : List ℕ} {n : ℕ} {b b₁ b₂ : List ℕ} {at : ℕ} {r₁ r₂ : Result ℕ Refusal} → Writes (LastLine N l n) b at b₁ r₁ → Writes (LastLine N l n) b at b₂ r₂ → (b₁ ≡ b₂) × (r₁ ≡ r₂)
   list_last_one = writes_one (λ t u x y. last_line_one x y)
 
   -- ---- lines have one text
 
-  listed_is : {l t : List ℕ} → Listed N l t → (a : Dated) × LineAnswer N l a × Ended (line_of a) t
+  listed_is : {l t : List ℕ} → Listed N l t → (a : Result Date Refusal) × LineAnswer N l a × Ended (line_of a) t
   listed_is (listed {a} q x) = (a, q, x)
 
   pub listed_one : {l t u : List ℕ} → Listed N l t → Listed N l u → t ≡ u
@@ -95,7 +93,7 @@ module _ {N : Naming} (names_one : (s : List ℕ) → One (N s)) where
 
   -- ---- what is written for a line
 
-  pub list_line_one : {l : List ℕ} {b b₁ b₂ : List ℕ} {at : ℕ} {r₁ r₂ : Written} → Writes (Listed N l) b at b₁ r₁ → Writes (Listed N l) b at b₂ r₂ → (b₁ ≡ b₂) × (r₁ ≡ r₂)
+  pub list_line_one : {l : List ℕ} {b b₁ b₂ : List ℕ} {at : ℕ} {r₁ r₂ : Result ℕ Refusal} → Writes (Listed N l) b at b₁ r₁ → Writes (Listed N l) b at b₂ r₂ → (b₁ ≡ b₂) × (r₁ ≡ r₂)
   list_line_one = writes_one (λ t u x y. listed_one x y)
 
 -- ---- a catalogue and an input have one listing
@@ -110,4 +108,4 @@ listing_one (refused {f} m x) (listing {hs} m' p q) = let e : refused_by f ≡ c
 listing_one (refused {f} m x) (refused {f = g} {t = u} m' y) =
     let e : refused_by f ≡ refused_by g = means_one m m' in
     let d : f ≡ g = cc in
-    ap (λ (s : List ℕ). header ++ s) (ended_one x (subst (λ (h : Refusal). Ended (Line'.Refusal h) u) (sym d) y))
+    ap (λ (s : List ℕ). header ++ s) (ended_one x (subst (λ (h : Refusal). Ended (Err h) u) (sym d) y))

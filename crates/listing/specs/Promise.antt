@@ -1,34 +1,34 @@
 -- What is promised of the line that is held from one block of input to the next, and of a block. What is written for a line is said in `Lines`.
 -- The answer to each name is given: N.
 -- Assumes nothing.
-use Rattle.std.specs.Prelude.{ℕ, ◌+◌, ◌≤◌, ◌<◌, List, [], length, take, pos}
-use Rattle.calendar.specs.declared.Dated.{Dated}
-use Rattle.calendar.specs.declared.Dated.TheVariants as Dated'
+use Rattle.std.specs.Prelude.{ℕ, ◌+◌, ◌≤◌, ◌<◌, List, [], length, take, pos, Result, Err}
 use Rattle.calendar.specs.Promise.{refusal}
 use Rattle.writer.specs.Promise.{put}
 use Rattle.entry.specs.Entry.{longest_entry}
 use Rattle.entry.specs.Promise.{Naming, LineAnswer}
 use Rattle.linetext.specs.Line.{longest_line}
 use Rattle.linetext.specs.Promise.{LineOut}
-use Rattle.linetext.specs.declared.Line.{Line}
 use Rattle.columns.specs.Columns.{line_of}
 use Rattle.textlines.specs.Promise.{TakesRest, TakesLine}
+use Rattle.refusals.specs.declared.Refusal.{Refusal}
+use Rattle.calendar.specs.declared.Date.{Date}
+use Rattle.linetext.specs.declared.LineNumbers.{LineNumbers}
 
 -- ---- the line that is held in the line buffer l: n bytes of it stand there, or it is too long, and n is above `longest_entry` (`Promise` of the
 -- crate `textlines`)
 
 -- the answer to the line, when it is finished
-pub data HeldAnswer (N : Naming) (l : List ℕ) (n : ℕ) : Dated → Type 0 where
-  short : {a : Dated} → n ≤ longest_entry → LineAnswer N (take n l) a → HeldAnswer N l n a
-  long : longest_entry < n → HeldAnswer N l n (Dated'.Refused (refusal 20 (pos 0)))
+pub data HeldAnswer (N : Naming) (l : List ℕ) (n : ℕ) : Result Date Refusal → Type 0 where
+  short : {a : Result Date Refusal} → n ≤ longest_entry → LineAnswer N (take n l) a → HeldAnswer N l n a
+  long : longest_entry < n → HeldAnswer N l n (Err (refusal 20 (pos 0)))
 
 -- the line of the listing for that answer
-pub data HeldAs (N : Naming) (l : List ℕ) (n : ℕ) : Line → Type 0 where
-  held_as : {a : Dated} → HeldAnswer N l n a → HeldAs N l n (line_of a)
+pub data HeldAs (N : Naming) (l : List ℕ) (n : ℕ) : Result LineNumbers Refusal → Type 0 where
+  held_as : {a : Result Date Refusal} → HeldAnswer N l n a → HeldAs N l n (line_of a)
 
 -- and what is written for it
 pub data HeldLine (N : Naming) (l : List ℕ) (n : ℕ) : List ℕ → Type 0 where
-  held_line : {a : Dated} {t : List ℕ} → HeldAnswer N l n a → LineOut (line_of a) t → HeldLine N l n t
+  held_line : {a : Result Date Refusal} {t : List ℕ} → HeldAnswer N l n a → LineOut (line_of a) t → HeldLine N l n t
 
 -- the last line, which needs no newline; none where nothing is held
 pub data LastLine (N : Naming) (l : List ℕ) : ℕ → List ℕ → Type 0 where

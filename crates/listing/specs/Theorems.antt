@@ -5,7 +5,7 @@
 -- (`any_reads`). Where the catalogue is refused, the header and its line are the listing (`refused_lists`).
 -- That a catalogue and an input have one listing, and that each promise allows one result, is in `One`.
 -- Assumes nothing.
-use Rattle.std.specs.Prelude.{ℕ, ◌+◌, ◌≤◌, ◌≡◌, refl, List, [], ◌∷◌, ◌++◌, length, take, drop}
+use Rattle.std.specs.Prelude.{ℕ, ◌+◌, ◌≤◌, ◌≡◌, refl, List, [], ◌∷◌, ◌++◌, length, take, drop, Err}
 use Rattle.std.proofs.Common.{sym, ◌∙◌, ap, ap₂, subst, append_assoc, append-nil, arith, length-append, take_at}
 use Rattle.calendar.specs.Rows.{refuses}
 use Rattle.refusals.specs.declared.Refusal.{Refusal}
@@ -28,7 +28,6 @@ use Rattle.entry.specs.Entry.{longest_entry}
 use Rattle.entry.specs.Promise.{Naming, LineAnswer}
 use Rattle.linetext.specs.Line.{longest_line}
 use Rattle.linetext.specs.Promise.{LineOut}
-use Rattle.linetext.specs.declared.Line.TheVariants as Line'
 use Rattle.columns.specs.Columns.{header}
 use Rattle.listing.specs.One.{listing_one}
 use Rattle.listing.specs.Promise.{HeldAnswer, HeldLine, LastLine, BlockState, block_state, NextLine, Lists}
@@ -184,7 +183,7 @@ module _ {house : List ℕ} {hs : List House} (p : Means house (catalogue hs)) {
       listing p (cuts_lines Without.none x y) (all_also (λ s a n. named_with p g n) z)
 
 -- what is written for a catalogue that is refused is the listing, whatever the input is
-pub refused_lists : {house input : List ℕ} {f : Refusal} {t : List ℕ} → Means house (refused_by f) → LineOut (Line'.Refusal f) t → Listing house input (header ++ t)
+pub refused_lists : {house input : List ℕ} {f : Refusal} {t : List ℕ} → Means house (refused_by f) → LineOut (Err f) t → Listing house input (header ++ t)
 refused_lists p x = refused p x.is
 
 -- so it does not matter in what parts the input comes, nor what else the memory has

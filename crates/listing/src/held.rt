@@ -7,13 +7,12 @@ ghost use Rattle.catalogue.specs.Promise.{NamesIn};
 ghost use Rattle.entry.specs.Promise.{LineAnswer};
 ghost use Rattle.listing.specs.Promise.{HeldAs, LastLine};
 
-use calendar::Dated;
 use catalogue::{Links, Names};
 use entry::LONGEST_ENTRY;
-use linetext::Line;
-use writer::{Written, buffer};
+use writer::buffer;
+use refusals::Refusal;
 
-fn front_answer(names: &Names, links: &Links, line: &[u8], held: usize) -> Dated
+fn front_answer(names: &Names, links: &Links, line: &[u8], held: usize) -> Result<Date, Refusal>
     requires { held ≤ length line.now }
     ensures { LineAnswer (NamesIn (memory names.now links.now)) (take held line.now) result }
 {
@@ -22,13 +21,13 @@ fn front_answer(names: &Names, links: &Links, line: &[u8], held: usize) -> Dated
 
 // The answer to it, as a line of the listing.
 #[tactic(auto, using(crate::specs::Laws::answered_short))]
-pub fn held_line(names: &Names, links: &Links, line: &[u8; LONGEST_ENTRY], held: usize) -> Line
+pub fn held_line(names: &Names, links: &Links, line: &[u8; LONGEST_ENTRY], held: usize) -> Result<LineNumbers, Refusal>
     ensures { HeldAs (NamesIn (memory names.now links.now)) line.now held result }
 {
     if held <= LONGEST_ENTRY {
         return columns::line_of(front_answer(names, links, line, held));
     }
-    Line::Refusal(calendar::refusal_of(20, 0))
+    Err(calendar::refusal_of(20, 0))
 }
 
 // The last line of the input, which needs no newline.
@@ -39,7 +38,7 @@ pub fn list_last(
     held: usize,
     out: &mut [u8],
     at: usize,
-) -> Written
+) -> Result<usize, Refusal>
     ensures { Writes (LastLine (NamesIn (memory names.now links.now)) line.now held) out.old at out.new result }
 {
     let some = 0 < held;
@@ -47,7 +46,7 @@ pub fn list_last(
         return linetext::put_line(out, at, held_line(names, links, line, held));
     }
     if buffer::has_room(out.len(), at, 0) {
-        return Written::Done(at);
+        return Ok(at);
     }
-    Written::Refused(refusals::refusal_with(18, 0))
+    Err(refusals::refusal_with(18, 0))
 }

@@ -12,7 +12,6 @@ ghost use Rattle.nametable.specs.Promise.{memory};
 ghost use Rattle.catalogue.specs.Promise.{NamesIn};
 ghost use Rattle.linetext.specs.Line.{longest_line};
 ghost use Rattle.linetext.specs.Promise.{LineOut};
-ghost use Rattle.linetext.specs.declared.Line.TheVariants.{Refusal as OfRefusal};
 ghost use Rattle.listing.specs.Lines.{Listed};
 ghost use Rattle.listing.specs.Promise.{HeldLine, block_state, NextLine, Lists};
 ghost use Rattle.listing.specs.Laws.{Wrote};
@@ -22,13 +21,13 @@ pub use columns::put_header;
 pub use entry::LONGEST_ENTRY;
 use held::held_line;
 pub use held::list_last;
-use linetext::{LONGEST_LINE, Line};
+use linetext::LONGEST_LINE;
 use refusals::Refusal;
 use textlines::add_to_line;
-use writer::{Written, buffer};
+use writer::buffer;
 
 // The text of its answer, with a newline.
-pub fn list_line(names: &Names, links: &Links, line: &[u8], out: &mut [u8], at: usize) -> Written
+pub fn list_line(names: &Names, links: &Links, line: &[u8], out: &mut [u8], at: usize) -> Result<usize, Refusal>
     ensures { Writes (Listed (NamesIn (memory names.now links.now)) line.now) out.old at out.new result }
 {
     let answer = entry::line_answer(names, links, line);
@@ -36,10 +35,10 @@ pub fn list_line(names: &Names, links: &Links, line: &[u8], out: &mut [u8], at: 
 }
 
 // The line of a catalogue that is refused. It stands under the header, and nothing else is listed.
-pub fn put_refused(out: &mut [u8], at: usize, why: Refusal) -> Written
-    ensures { Writes (LineOut (OfRefusal why)) out.old at out.new result }
+pub fn put_refused(out: &mut [u8], at: usize, why: Refusal) -> Result<usize, Refusal>
+    ensures { Writes (LineOut (Err why)) out.old at out.new result }
 {
-    linetext::put_line(out, at, Line::Refusal(why))
+    linetext::put_line(out, at, Err(why))
 }
 
 // How far a block is read, how many bytes of an unfinished line are held, and how far the output is written.
@@ -63,8 +62,8 @@ fn put_held(
     ensures { Wrote (HeldLine (NamesIn (memory names.now links.now)) line.now held) out.old at out.new result }
 {
     match linetext::put_line(out, at, held_line(names, links, line, held)) {
-        Written::Done(next) => next,
-        Written::Refused(_) => at,
+        Ok(next) => next,
+        Err(_) => at,
     }
 }
 

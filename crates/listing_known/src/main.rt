@@ -7,7 +7,6 @@ ghost use Rattle.std.specs.Prelude.{◌≤◌, length};
 
 use catalogue::{LINK_COUNT, Links, NAME_BYTES, Names};
 use listing::LONGEST_ENTRY;
-use writer::Written;
 
 // The listing of two blocks, the first of `cut` bytes: how many bytes it has.
 fn list_cut(
@@ -32,8 +31,8 @@ fn list_cut(
         first.used,
     );
     match listing::list_last(names, links, line, second.held, out, second.used) {
-        Written::Done(size) => size,
-        Written::Refused(_) => 0,
+        Ok(size) => size,
+        Err(_) => 0,
     }
 }
 
@@ -81,10 +80,10 @@ fn same_ways(
 
 fn write_header(rt: &HostRuntime, out: &mut [u8]) {
     match listing::put_header(out, 0) {
-        Written::Done(size) => {
+        Ok(size) => {
             streams::print(rt, front(out, size));
         }
-        Written::Refused(_) => {}
+        Err(_) => {}
     }
 }
 

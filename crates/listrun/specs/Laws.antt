@@ -1,11 +1,10 @@
 -- From what the calls below say to the promises.
 -- Assumes nothing.
-use Rattle.std.specs.Prelude.{ℕ, ◌+◌, ◌≤◌, ◌<◌, ◌≡◌, refl, Bool, List, ◌++◌, length, take, ℤ}
+use Rattle.std.specs.Prelude.{ℕ, ◌+◌, ◌≤◌, ◌<◌, ◌≡◌, refl, Bool, List, ◌++◌, length, take, ℤ, Ok, Err}
 use Rattle.std.proofs.Common.{sym, ◌∙◌, ap, ap₂, subst, zero-add, arith, length-append}
 use Rattle.whole.specs.Text.{bytes}
 use Rattle.writer.specs.Promise.{put, Puts, Writes}
 use Rattle.writer.proofs.PutLaws.{put_then, length_put}
-use Rattle.writer.specs.declared.Written.{Written}
 use Rattle.refusals.specs.declared.Refusal.{Refusal}
 use Rattle.columns.specs.Columns.{header}
 use Rattle.columns.specs.Promise.{PutsHeader}
@@ -17,7 +16,6 @@ use Rattle.filter.specs.declared.State.{State}
 use Rattle.filter.specs.Promise.{event_of, state_with_value, block_size}
 use Rattle.linetext.specs.Line.{longest_line}
 use Rattle.linetext.specs.Promise.{LineOut}
-use Rattle.linetext.specs.declared.Line.TheVariants as Line'
 use Rattle.nametable.specs.Promise.{Memory}
 use Rattle.catalogue.specs.Promise.{NamesIn}
 use Rattle.cataloguerun.specs.declared.CatalogueRun.{CatalogueRun}
@@ -27,10 +25,10 @@ use Rattle.listrun.specs.Promise.{Begins, Refuses, Starts, state_at_value, Advan
 
 module _ {P : List ℕ → Type 0} {o : List ℕ} (short : (t : List ℕ) → P t → length t ≤ longest_line) (long : length o ≡ block_size) where
   -- so it was written
-  written : {o' : List ℕ} {n : ℕ} → Writes P o 0 o' (Written.Done n) → (t : List ℕ) × P t × (o' ≡ put o 0 t) × (n ≡ length t)
+  written : {o' : List ℕ} {n : ℕ} → Writes P o 0 o' (Ok n) → (t : List ℕ) × P t × (o' ≡ put o 0 t) × (n ≡ length t)
   written (Writes.writes {t} p (Puts.done h)) = (t, p, refl, zero-add (length t))
 
-  not_refused : {o' : List ℕ} {f : Refusal} → Writes P o 0 o' (Written.Refused f) → ⊥
+  not_refused : {o' : List ℕ} {f : Refusal} → Writes P o 0 o' (Err f) → ⊥
   not_refused (Writes.writes {t} p (Puts.short h)) = omega (arith, short t p)
 
 last_short : (m : Memory) (l : List ℕ) (n : ℕ) (t : List ℕ) → LastLine (NamesIn m) l n t → length t ≤ longest_line
@@ -42,33 +40,33 @@ unfolding header bytes
 header_short t e = omega (arith, ap length e)
 
 module _ {o o' : List ℕ} (long : length o ≡ block_size) where
-  pub begins_with : {n : ℕ} {s : State} → PutsHeader o 0 o' (Written.Done n) → s ≡ state_with_value Reading n → Begins o o' s
+  pub begins_with : {n : ℕ} {s : State} → PutsHeader o 0 o' (Ok n) → s ≡ state_with_value Reading n → Begins o o' s
   begins_with {n} {s} w e =
       let (t, p, q, k) = written header_short long w in
       subst (Begins o o') (sym (e ∙ ap (state_with_value Reading) (k ∙ ap length p))) (subst (λ (x : List ℕ). Begins o x (state_with_value Reading (length header))) (sym (q ∙ ap (put o 0) p)) Begins.begins)
 
-  pub begins_always : {f : Refusal} → PutsHeader o 0 o' (Written.Refused f) → ⊥
+  pub begins_always : {f : Refusal} → PutsHeader o 0 o' (Err f) → ⊥
   begins_always = not_refused header_short long
 
   module _ {m : Memory} {l : List ℕ} {h : ℕ} where
-    pub closes_with : {n : ℕ} {s : State} → Writes (LastLine (NamesIn m) l h) o 0 o' (Written.Done n) → s ≡ state_with_value Closing n → Closes m l h o o' s
+    pub closes_with : {n : ℕ} {s : State} → Writes (LastLine (NamesIn m) l h) o 0 o' (Ok n) → s ≡ state_with_value Closing n → Closes m l h o o' s
     closes_with {n} {s} w e =
         let (t, p, q, k) = written (last_short m l h) long w in
         subst (Closes m l h o o') (sym (e ∙ ap (state_with_value Closing) k)) (subst (λ (x : List ℕ). Closes m l h o x (state_with_value Closing (length t))) (sym q) (Closes.closes p))
 
-    pub closes_always : {f : Refusal} → Writes (LastLine (NamesIn m) l h) o 0 o' (Written.Refused f) → ⊥
+    pub closes_always : {f : Refusal} → Writes (LastLine (NamesIn m) l h) o 0 o' (Err f) → ⊥
     closes_always = not_refused (last_short m l h) long
 
 -- ---- a catalogue that is refused
 
 -- what is put, and what is not
-puts_done : {t b b' : List ℕ} {i n : ℕ} → Puts t b i b' (Written.Done n) → (i + length t ≤ length b) × (b' ≡ put b i t) × (n ≡ i + length t)
+puts_done : {t b b' : List ℕ} {i n : ℕ} → Puts t b i b' (Ok n) → (i + length t ≤ length b) × (b' ≡ put b i t) × (n ≡ i + length t)
 puts_done (Puts.done h) = (h, refl, refl)
 
-puts_short : {t b b' : List ℕ} {i : ℕ} {f : Refusal} → Puts t b i b' (Written.Refused f) → length b < i + length t
+puts_short : {t b b' : List ℕ} {i : ℕ} {f : Refusal} → Puts t b i b' (Err f) → length b < i + length t
 puts_short (Puts.short h) = h
 
-module _ {o o₁ : List ℕ} {i : ℕ} (long : length o ≡ block_size) (w : PutsHeader o 0 o₁ (Written.Done i)) where
+module _ {o o₁ : List ℕ} {i : ℕ} (long : length o ≡ block_size) (w : PutsHeader o 0 o₁ (Ok i)) where
   header_put : (o₁ ≡ put o 0 header) × (i ≡ length header) × (length o₁ ≡ block_size) × (length header ≤ longest_line)
   header_put =
       let (t, p, q, k) = written header_short long w in
@@ -76,7 +74,7 @@ module _ {o o₁ : List ℕ} {i : ℕ} (long : length o ≡ block_size) (w : Put
       let h : length header ≤ longest_line = header_short header refl in
       (e, k ∙ ap length p, ap length e ∙ length_put o 0 header (omega arith) ∙ long, h)
 
-  pub refuses_with : {f : Refusal} {o₂ : List ℕ} {n : ℕ} {s : State} → Writes (LineOut (Line'.Refusal f)) o₁ i o₂ (Written.Done n) → s ≡ state_with_value Closing n → Refuses f o o₂ s
+  pub refuses_with : {f : Refusal} {o₂ : List ℕ} {n : ℕ} {s : State} → Writes (LineOut (Err f)) o₁ i o₂ (Ok n) → s ≡ state_with_value Closing n → Refuses f o o₂ s
   refuses_with {f} {o₂} {n} {s} (Writes.writes {t} p w) e =
       let (k, u, v) = puts_done w in
       let (a, b, c, d) = header_put in
@@ -85,7 +83,7 @@ module _ {o o₁ : List ℕ} {i : ℕ} (long : length o ≡ block_size) (w : Put
       (subst (Refuses f o (put o₁ i t)) (sym (e ∙ ap (state_with_value Closing) (v ∙ ap (λ (j : ℕ). j + length t) b ∙ sym (length-append header t))))
       (subst (λ (x : List ℕ). Refuses f o x (state_with_value Closing (length (header ++ t)))) (sym q) (Refuses.refuses p)))
 
-  pub refuses_always : {f g : Refusal} {o₂ : List ℕ} → Writes (LineOut (Line'.Refusal f)) o₁ i o₂ (Written.Refused g) → ⊥
+  pub refuses_always : {f g : Refusal} {o₂ : List ℕ} → Writes (LineOut (Err f)) o₁ i o₂ (Err g) → ⊥
   refuses_always (Writes.writes p w) = let (a, b, c, d) = header_put in omega (arith, p.short, puts_short w)
 
 pub starts : {run r : CatalogueRun} {o o' : List ℕ} {s : State} → run ≡ r → Starts r o o' s → Starts run o o' s

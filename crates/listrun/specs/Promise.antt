@@ -1,6 +1,6 @@
 -- What is promised of a run of the listing: how it starts, and what a turn does by what has happened.
 -- Assumes nothing.
-use Rattle.std.specs.Prelude.{ℕ, ◌≤◌, ◌<◌, List, ◌++◌, length, take}
+use Rattle.std.specs.Prelude.{ℕ, ◌≤◌, ◌<◌, List, ◌++◌, length, take, Err}
 use Rattle.whole.specs.Text.{bytes}
 use Rattle.writer.specs.Promise.{put}
 use Rattle.columns.specs.Columns.{header}
@@ -12,7 +12,6 @@ use Rattle.filter.specs.declared.Event.TheVariants.{Block, InputEnds, Unread, Un
 use Rattle.filter.specs.declared.State.{State}
 use Rattle.filter.specs.Promise.{state_with_value, PutsMessage}
 use Rattle.refusals.specs.declared.Refusal.{Refusal}
-use Rattle.linetext.specs.declared.Line.TheVariants as Line'
 use Rattle.linetext.specs.Promise.{LineOut}
 use Rattle.nametable.specs.Promise.{Memory}
 use Rattle.catalogue.specs.Promise.{NamesIn}
@@ -25,7 +24,7 @@ pub data Begins (o : List ℕ) : List ℕ → State → Type 0 where
 
 -- under it stands the line of a catalogue that is refused, and nothing is read
 pub data Refuses (f : Refusal) (o : List ℕ) : List ℕ → State → Type 0 where
-  refuses : {t : List ℕ} → LineOut (Line'.Refusal f) t → Refuses f o (put o 0 (header ++ t)) (state_with_value Closing (length (header ++ t)))
+  refuses : {t : List ℕ} → LineOut (Err f) t → Refuses f o (put o 0 (header ++ t)) (state_with_value Closing (length (header ++ t)))
 
 -- by what the catalogue came to; one that could not be read lists nothing
 pub data Starts : CatalogueRun → List ℕ → List ℕ → State → Type 0 where

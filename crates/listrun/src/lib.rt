@@ -15,7 +15,6 @@ use filter::{BLOCK_SIZE, Event, Phase, State};
 pub use listing::LONGEST_ENTRY;
 use listing::Progress;
 use refusals::Refusal;
-use writer::Written;
 
 const UNREAD: [u8; 79] =
     *b"list: standard input could not be read to its end; the listing is not complete\n";
@@ -40,8 +39,8 @@ fn begin(out: &mut [u8; BLOCK_SIZE]) -> State
     ensures { Begins out.old out.new result }
 {
     match listing::put_header(out, 0) {
-        Written::Done(used) => filter::state_with(Phase::Reading, used),
-        Written::Refused(_) => filter::state_with(Phase::Reading, 0),
+        Ok(used) => filter::state_with(Phase::Reading, used),
+        Err(_) => filter::state_with(Phase::Reading, 0),
     }
 }
 
@@ -49,10 +48,10 @@ fn refuse(why: Refusal, out: &mut [u8; BLOCK_SIZE]) -> State
     ensures { Refuses why out.old out.new result }
 {
     match listing::put_header(out, 0) {
-        Written::Refused(_) => filter::state_with(Phase::Closing, 0),
-        Written::Done(at) => match listing::put_refused(out, at, why) {
-            Written::Done(used) => filter::state_with(Phase::Closing, used),
-            Written::Refused(_) => filter::state_with(Phase::Closing, 0),
+        Err(_) => filter::state_with(Phase::Closing, 0),
+        Ok(at) => match listing::put_refused(out, at, why) {
+            Ok(used) => filter::state_with(Phase::Closing, used),
+            Err(_) => filter::state_with(Phase::Closing, 0),
         },
     }
 }
@@ -133,7 +132,7 @@ fn close(
     ensures { Closes (memory names.now links.now) line.now held out.old out.new result }
 {
     match listing::list_last(names, links, line, held, out, 0) {
-        Written::Done(used) => filter::state_with(Phase::Closing, used),
-        Written::Refused(_) => filter::state_with(Phase::Closing, 0),
+        Ok(used) => filter::state_with(Phase::Closing, used),
+        Err(_) => filter::state_with(Phase::Closing, 0),
     }
 }

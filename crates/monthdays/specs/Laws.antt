@@ -1,6 +1,6 @@
 -- From the arithmetic of the months to what is promised.
 -- Assumes nothing.
-use Rattle.std.specs.Prelude.{◌≡◌, refl, Bool, true, false, cond, ℕ, zero, suc, ◌+◌, ◌-◌, ◌*◌, ◌/◌, ◌<◌, ◌≤◌, ◌^◌, ltb, ℤ, pos, ◌≤ℤ◌}
+use Rattle.std.specs.Prelude.{◌≡◌, refl, Bool, true, false, cond, ℕ, zero, suc, ◌+◌, ◌-◌, ◌*◌, ◌/◌, ◌<◌, ◌≤◌, ◌^◌, ltb, ℤ, pos, ◌≤ℤ◌, Some}
 use Rattle.std.proofs.Common.{sym, ◌∙◌, ap, subst, arith, lt-ltb, le-ltb, ltb-true}
 use Rattle.std.proofs.Math.Logic.{⊎_elim}
 use Rattle.std.proofs.Math.IntN.{suc_ℤ}
@@ -15,8 +15,6 @@ use Rattle.days.proofs.ClosedYear.{year_length, DayOfMonth as MonthAndDay, day_o
 use Rattle.days.proofs.ClosedMonths.{twelve, ordinal_is, ordinal_within}
 use Rattle.days.proofs.ClosedNumbers.{days_before_value, before, to_thirty_value, month_at, month_at_lem}
 use Rattle.days.proofs.ReckoningLabels.{after_later}
-use Rattle.monthdays.specs.declared.MonthDay.TheVariants as MonthDay'
-use Rattle.monthdays.specs.declared.DayOrdinal.TheVariants as DayOrdinal'
 use Rattle.monthdays.specs.Promise.{OfOrdinal, MonthDayOf, month_day, OrdinalOf, ordinal, MonthDayAt}
 
 first_valid : (rule : LeapRule) (y : ℤ) → Valid rule (label y 1 1)
@@ -165,13 +163,13 @@ month_least true m v = twelve (λ m. 28 ≤ month_length true m) (omega arith) (
 month_least false m v = twelve (λ m. 28 ≤ month_length false m) (omega arith) (omega arith) (omega arith) (omega arith) (omega arith) (omega arith) (omega arith) (omega arith) (omega arith) (omega arith) (omega arith) (omega arith) m v.0 v.1
 
 -- the answers
-pub month_answer : {leap : Bool} {o m d : ℕ} → 1 ≤ o → o ≤ year_length leap → MonthDayAt leap o m d → MonthDayOf leap o (MonthDay'.At m d)
+pub month_answer : {leap : Bool} {o m d : ℕ} → 1 ≤ o → o ≤ year_length leap → MonthDayAt leap o m d → MonthDayOf leap o (Some (m, d))
 month_answer {leap} {o} {m} {d} f t p =
     let (v, u, w) = month_day_in f t p in
     month_day (subst (λ (o : ℕ). OfOrdinal leap o m d) p.day_is (in_year_month leap m d v u w))
 
 module _ (leap : Bool) (m d : ℕ) (v : Month m) (f : 1 ≤ d) (t : d ≤ month_length leap m) where
-  pub ordinal_found : {b : ℕ} → b ≡ days_before_value leap m → OrdinalOf leap m d (DayOrdinal'.At (b + d))
+  pub ordinal_found : {b : ℕ} → b ≡ days_before_value leap m → OrdinalOf leap m d (Some (b + d))
   ordinal_found g = rw g (ordinal (in_year_month leap m d v f t))
 
   pub ordinal_few : {b : ℕ} → b ≡ days_before_value leap m → b + d ≤ 366

@@ -1,6 +1,6 @@
 -- A promise of the days of a year allows one result.
 -- Assumes nothing.
-use Rattle.std.specs.Prelude.{◌≡◌, refl, Bool, ℕ, suc, ◌+◌, ◌-◌, ◌<◌, pos}
+use Rattle.std.specs.Prelude.{◌≡◌, refl, Bool, ℕ, suc, ◌+◌, ◌-◌, ◌<◌, pos, Option, Some}
 use Rattle.std.proofs.Common.{sym, ◌∙◌, ap, subst, ⊎_elim, arith}
 use Rattle.whole.specs.Tests.{lt_or_ge}
 use Rattle.days.specs.DayByDay.{Label, label, ◌≺◌, next_label, prev_label, stepping}
@@ -8,9 +8,6 @@ use Rattle.days.proofs.LabelOrder.{≺-irrefl}
 use Rattle.days.proofs.ReckoningSteps.{after, after_stepping, after_sum}
 use Rattle.days.proofs.ReckoningLabels.{after_later}
 use Rattle.days.specs.ClosedNumbers.{days_before_value}
-use Rattle.monthdays.specs.declared.MonthDay.{MonthDay}
-use Rattle.monthdays.specs.declared.DayOrdinal.{DayOrdinal}
-use Rattle.monthdays.specs.declared.DayOrdinal.TheVariants as DayOrdinal'
 use Rattle.monthdays.specs.Promise.{OfOrdinal, MonthDayOf, month_day, no_month_day, OrdinalOf, ordinal, no_ordinal, MonthDayAt}
 
 -- in any year of the kind an ordinal has one month and day, and they have one ordinal
@@ -38,14 +35,14 @@ module _ {leap : Bool} {m d : ℕ} where
   pub in_year_ordinal : {o p : ℕ} → OfOrdinal leap o m d → OfOrdinal leap p m d → o ≡ p
   in_year_ordinal {o} {p} a b = ⊎_elim (λ h. absurd (not_sooner a b h)) (λ h. ⊎_elim (λ k. absurd (not_sooner b a k)) (λ k. omega arith) (lt_or_ge p o)) (lt_or_ge o p)
 
-pub month_day_one : {leap : Bool} {o : ℕ} {r s : MonthDay} → MonthDayOf leap o r → MonthDayOf leap o s → r ≡ s
+pub month_day_one : {leap : Bool} {o : ℕ} {r s : Option (ℕ × ℕ)} → MonthDayOf leap o r → MonthDayOf leap o s → r ≡ s
 month_day_one (month_day p) (month_day q) = let (e, f) = in_year_one p q in cc
 month_day_one (month_day p) (no_month_day n) = absurd (n _ _ p)
 month_day_one (no_month_day n) (month_day q) = absurd (n _ _ q)
 month_day_one (no_month_day n) (no_month_day m) = refl
 
-pub ordinal_one : {leap : Bool} {m d : ℕ} {r s : DayOrdinal} → OrdinalOf leap m d r → OrdinalOf leap m d s → r ≡ s
-ordinal_one (ordinal p) (ordinal q) = ap DayOrdinal'.At (in_year_ordinal p q)
+pub ordinal_one : {leap : Bool} {m d : ℕ} {r s : Option ℕ} → OrdinalOf leap m d r → OrdinalOf leap m d s → r ≡ s
+ordinal_one (ordinal p) (ordinal q) = ap Some (in_year_ordinal p q)
 ordinal_one (ordinal p) (no_ordinal n) = absurd (n _ p)
 ordinal_one (no_ordinal n) (ordinal q) = absurd (n _ q)
 ordinal_one (no_ordinal n) (no_ordinal m) = refl

@@ -9,18 +9,6 @@ ghost use Rattle.days.specs.DayByDay.{month_length, Month};
 ghost use Rattle.days.specs.ClosedNumbers.{days_before_value, to_thirty_value};
 ghost use Rattle.monthdays.specs.Promise.{MonthDayOf, OrdinalOf, MonthDayAt};
 
-#[derive(Clone, Copy)]
-pub enum MonthDay {
-    At(u32, u32),
-    Nothing,
-}
-
-#[derive(Clone, Copy)]
-pub enum DayOrdinal {
-    At(u32),
-    Nothing,
-}
-
 pub fn is_month(month: u32) -> bool
     ensures { Whether (Month month) result }
 {
@@ -31,36 +19,36 @@ pub fn is_month(month: u32) -> bool
 }
 
 // Month and day of a place in a year.
-pub fn ordinal2md(leap: bool, ordinal: u32) -> MonthDay
+pub fn ordinal2md(leap: bool, ordinal: u32) -> Option<(u32, u32)>
     ensures { MonthDayOf leap ordinal result }
 {
     if ordinal < 1 {
-        return MonthDay::Nothing;
+        return None;
     }
     let at = month_day(leap, ordinal - 1);
     if 12 < at.month {
-        return MonthDay::Nothing;
+        return None;
     }
-    MonthDay::At(at.month, at.day)
+    Some((at.month, at.day))
 }
 
 // And back.
-pub fn md2ordinal(leap: bool, month: u32, day: u32) -> DayOrdinal
+pub fn md2ordinal(leap: bool, month: u32, day: u32) -> Option<u32>
     ensures { OrdinalOf leap month day result }
 {
     if day < 1 {
-        return DayOrdinal::Nothing;
+        return None;
     }
     if month < 1 {
-        return DayOrdinal::Nothing;
+        return None;
     }
     if 12 < month {
-        return DayOrdinal::Nothing;
+        return None;
     }
     if is_past(leap, month, day) {
-        return DayOrdinal::Nothing;
+        return None;
     }
-    DayOrdinal::At(days_before(leap, month) + day)
+    Some(days_before(leap, month) + day)
 }
 
 // Whether a day comes after the last one of a month. No month ends before its 28th, so most days need no look at its length.

@@ -1,6 +1,6 @@
 -- From what the private functions say to the promise.
 -- Assumes nothing.
-use Rattle.std.specs.Prelude.{◌≡◌, ℕ, ◌+◌, ◌-◌, ◌<◌, ◌≤◌, ℤ}
+use Rattle.std.specs.Prelude.{◌≡◌, ℕ, ◌+◌, ◌-◌, ◌<◌, ◌≤◌, ℤ, Ok, Err}
 use Rattle.std.proofs.Common.{sym, ◌∙◌, ap, ap₂, subst, subst₂, inl, inr, ⊎_elim, arith, lt-ltb, le-ltb}
 use Rattle.whole.specs.Tests.{lt_or_ge}
 use Rattle.whole.specs.Integers.{unbias_le}
@@ -22,7 +22,6 @@ use Rattle.months.specs.Natural.{SpanOf, Inside}
 use Rattle.months.specs.Laws.{month_days, month_row, span_room, inside, begins_old, label_in}
 use Rattle.monthruns.specs.declared.Run.{Run}
 use Rattle.monthruns.specs.declared.Runs.{Runs}
-use Rattle.monthruns.specs.declared.MonthDays.TheVariants as MonthDays'
 use Rattle.monthruns.specs.Promise.{InRun, HasRuns, are_runs, RunsOf}
 use Rattle.monthruns.specs.Natural.{run_of, Few, AllInside, RunsIn, no_run, new_run, old_run, two_runs}
 
@@ -146,5 +145,5 @@ module _ (c : Calendar) {z : ℤ} {m : ℕ} (s : MonthSpan) (p : SpanOf c z m s)
         borne = λ d. ⊎_elim (run_borne s.first s.first (s.switch - 1) (omega arith) old d) (run_borne s.gregorian s.switch (s.past - 1) (omega arith) new d);
       }
 
-  pub runs_row : {r : Runs} → RunsIn s r → RunsOf c z m (MonthDays'.Are r)
-  runs_row w = month_row c s p MonthDays'.Refused (are_runs (has_runs w))
+  pub runs_row : {r : Runs} → RunsIn s r → RunsOf c z m (Ok r)
+  runs_row w = month_row c s p Err (are_runs (has_runs w))

@@ -1,6 +1,6 @@
 -- Two results that the promise allows are equal: next to a run of the month no day is of the month, and so two runs that share a day are one.
 -- Assumes nothing.
-use Rattle.std.specs.Prelude.{◌≡◌, refl, ℕ, ◌+◌, ◌-◌, ◌<◌, ◌≤◌, ℤ}
+use Rattle.std.specs.Prelude.{◌≡◌, refl, ℕ, ◌+◌, ◌-◌, ◌<◌, ◌≤◌, ℤ, Ok}
 use Rattle.std.proofs.Common.{sym, ◌∙◌, ap, ap₂, inl, inr, ⊎_elim, arith}
 use Rattle.whole.specs.Tests.{lt_or_ge}
 use Rattle.days.specs.DayByDay.{Label, label, Borne}
@@ -11,7 +11,6 @@ use Rattle.calendar.specs.RowLaws.{unless_one}
 use Rattle.monthruns.specs.declared.Run.{Run}
 use Rattle.monthruns.specs.declared.Runs.{Runs}
 use Rattle.monthruns.specs.declared.Runs.TheVariants.{Nothing, One, Two}
-use Rattle.monthruns.specs.declared.MonthDays.TheVariants as MonthDays'
 use Rattle.monthruns.specs.Promise.{InRun, HasRuns, AreRuns, are_runs, RunsOf}
 
 -- a run of numbers with P, with none next to it
@@ -117,7 +116,7 @@ module _ {f : ℤ → Label} {y : ℤ} {m : ℕ} where
   has_runs_one {r} {s} h k = same_runs r s h k
 
 are_runs_one : (f : ℤ → Label) (y : ℤ) (m : ℕ) → R.One (AreRuns f y m)
-are_runs_one f y m a b (are_runs h) (are_runs k) = ap MonthDays'.Are (has_runs_one h k)
+are_runs_one f y m a b (are_runs h) (are_runs k) = ap Ok (has_runs_one h k)
 
 pub runs_of_one : (c : Calendar) (y : ℤ) (m : ℕ) → R.One (RunsOf c y m)
 runs_of_one c y m = unless_one (λ a. unless_one (λ v. are_runs_one (labels c) y m))

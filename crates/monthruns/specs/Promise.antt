@@ -1,6 +1,6 @@
 -- What `runs_of` promises: the days that a month of the unbounded calendar has, as runs of days of the month.
 -- Assumes nothing.
-use Rattle.std.specs.Prelude.{◌⊎◌, ℕ, ◌+◌, ◌<◌, ◌≤◌, ℤ}
+use Rattle.std.specs.Prelude.{◌⊎◌, ℕ, ◌+◌, ◌<◌, ◌≤◌, ℤ, Result, Ok, Err}
 use Rattle.days.specs.DayByDay.{Label, label, Borne}
 use Rattle.calendar.specs.declared.Calendar.{Calendar}
 use Rattle.calendar.specs.Calendars.{labels}
@@ -8,8 +8,7 @@ use Rattle.months.specs.Promise.{OfAMonth}
 use Rattle.monthruns.specs.declared.Run.{Run}
 use Rattle.monthruns.specs.declared.Runs.{Runs}
 use Rattle.monthruns.specs.declared.Runs.TheVariants.{Nothing, One, Two}
-use Rattle.monthruns.specs.declared.MonthDays.{MonthDays}
-use Rattle.monthruns.specs.declared.MonthDays.TheVariants as MonthDays'
+use Rattle.refusals.specs.declared.Refusal.{Refusal}
 
 -- d is a day of the run; of one of the runs
 abbrev pub InRun : Run → ℕ → Type 0
@@ -33,9 +32,9 @@ pub record HasRuns (f : ℤ → Label) (y : ℤ) (m : ℕ) (r : Runs) : Type 0 w
   pub borne : (d : ℕ) → InRuns r d → Borne f (label y m d)
 
 -- the answer is the runs of the month
-pub data AreRuns (f : ℤ → Label) (y : ℤ) (m : ℕ) : MonthDays → Type 0 where
-  are_runs : {r : Runs} → HasRuns f y m r → AreRuns f y m (MonthDays'.Are r)
+pub data AreRuns (f : ℤ → Label) (y : ℤ) (m : ℕ) : Result Runs Refusal → Type 0 where
+  are_runs : {r : Runs} → HasRuns f y m r → AreRuns f y m (Ok r)
 
 -- runs_of: 16, 3, or the runs
-abbrev pub RunsOf : Calendar → ℤ → ℕ → MonthDays → Type 0
-RunsOf c y m = OfAMonth c m MonthDays'.Refused (AreRuns (labels c) y m)
+abbrev pub RunsOf : Calendar → ℤ → ℕ → Result Runs Refusal → Type 0
+RunsOf c y m = OfAMonth c m Err (AreRuns (labels c) y m)

@@ -10,7 +10,7 @@ ghost use Rattle.monthruns.specs.Natural.{Few, run_of, AllInside, RunsIn};
 use calendar::Calendar;
 use months::span_of;
 use refusals::Refusal;
-use switches::{MonthSpan, Spanned};
+use switches::MonthSpan;
 
 // All days of the month from the first to the last.
 #[derive(Clone, Copy)]
@@ -26,19 +26,13 @@ pub enum Runs {
     Two(Run, Run),
 }
 
-#[derive(Clone, Copy)]
-pub enum MonthDays {
-    Are(Runs),
-    Refused(Refusal),
-}
-
 // The days that a month has. A month with a gap inside has Julian days before the gap, and Gregorian ones after it.
-pub fn runs_of(calendar: Calendar, year: i32, month: u32) -> MonthDays
+pub fn runs_of(calendar: Calendar, year: i32, month: u32) -> Result<Runs, Refusal>
     ensures { RunsOf calendar year month result }
 {
     match span_of(calendar, year, month) {
-        Spanned::Refused(refusal) => MonthDays::Refused(refusal),
-        Spanned::Month(s) => MonthDays::Are(runs_in(s)),
+        Err(refusal) => Err(refusal),
+        Ok(s) => Ok(runs_in(s)),
     }
 }
 

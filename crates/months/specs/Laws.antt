@@ -1,6 +1,6 @@
 -- From what the private functions say to the promises.
 -- Assumes nothing.
-use Rattle.std.specs.Prelude.{◌≡◌, refl, Bool, true, false, ◌⊎◌, ℕ, ◌+◌, ◌-◌, ◌<◌, ◌≤◌, ◌^◌, ℤ, ◌≤ℤ◌}
+use Rattle.std.specs.Prelude.{◌≡◌, refl, Bool, true, false, ◌⊎◌, ℕ, ◌+◌, ◌-◌, ◌<◌, ◌≤◌, ◌^◌, ℤ, ◌≤ℤ◌, Result, Ok, Err}
 use Rattle.std.proofs.Common.{sym, ◌∙◌, ap, subst, subst₂, inl, inr, ⊎_elim, arith, add-one, lt-ltb, le-ltb}
 use Rattle.whole.specs.Tests.{lt_or_ge}
 use Rattle.whole.specs.Integers.{unbias_le}
@@ -19,19 +19,12 @@ use Rattle.days.proofs.ClosedRuns.{Runs, top, julian_runs, gregorian_runs, first
 use Rattle.inner.specs.Natural.{biased_year_value}
 use Rattle.calendar.specs.declared.Calendar.{Calendar}
 use Rattle.refusals.specs.declared.Refusal.{Refusal}
-use Rattle.calendar.specs.declared.Counted.TheVariants as Counted'
-use Rattle.calendar.specs.declared.Told.TheVariants as Told'
-use Rattle.calendar.specs.declared.Dated.{Dated}
-use Rattle.calendar.specs.declared.Dated.TheVariants as Dated'
 use Rattle.calendar.specs.Calendars.{definition_of, labels}
 use Rattle.calendar.specs.Rows.{refuses, passes}
 use Rattle.calendar.specs.Promise.{Given, AtYmd, on_label}
 use Rattle.calendar.specs.Laws.{found_label, label_row, refused_row, refused_nowhere}
 use Rattle.switches.specs.declared.MonthSpan.{MonthSpan}
-use Rattle.switches.specs.declared.Spanned.{Spanned}
-use Rattle.switches.specs.declared.Spanned.TheVariants as Spanned'
 use Rattle.inner.specs.declared.Spot.{Spot}
-use Rattle.switches.specs.declared.Found.TheVariants as Found'
 use Rattle.switches.specs.Promise as S
 use Rattle.switches.specs.Promise.{YearSpan, SpansMonth, Finds}
 use Rattle.switches.specs.Laws.{starts_close}
@@ -39,6 +32,7 @@ use Rattle.months.specs.Promise as P
 use Rattle.months.specs.Promise.{refused_number, OfAMonth, YearLengthOf, Len, first, no_first, last, no_last, FirstDayOf, LastDayOf, borne, not_borne, Contains, DayOrdinalOf, OffMonth, NthDay, nth_record, NthDate}
 use Rattle.months.specs.One.{label_of_month}
 use Rattle.months.specs.Natural.{SpanOf, Spans, spanned, no_calendar, no_month, Inside, day_in_value}
+use Rattle.calendar.specs.declared.Date.{Date}
 
 -- ---- The machine's room
 
@@ -105,7 +99,7 @@ module _ (c : Calendar) {r y a b : ℕ} {z : ℤ} (runs : Runs (definition_of c)
   year_few = subst₂ (λ (a b : ℕ). b - a < 2 ^ 32) (sym s.first_is) (sym s.past_is)
       (few_between r (J.start y) (G.start y) (J.start (y + 1)) (G.start (y + 1)) (omega (arith, starts_close y h.to)) (next_start J.starts y) (next_start G.starts y))
 
-  pub year_row : YearLengthOf c z (Counted'.Number (b - a))
+  pub year_row : YearLengthOf c z (Ok (b - a))
   year_row = passes runs.accepted (P.number year_days.days)
 
 -- ---- A month
@@ -145,14 +139,14 @@ module _ (leap_at : ℕ → Bool) (start : ℕ → ℕ) (y : ℕ) {m a : ℕ} (v
       back a g = omega arith
 
 -- ---- What the span of a month says
-pub span_is : {c : Calendar} {z : ℤ} {m : ℕ} {s : MonthSpan} → Spans c z m (Spanned'.Month s) → SpanOf c z m s
+pub span_is : {c : Calendar} {z : ℤ} {m : ℕ} {s : MonthSpan} → Spans c z m (Ok s) → SpanOf c z m s
 span_is (spanned p) = p
 
-pub span_made : (c : Calendar) {z : ℤ} {r y m : ℕ} {s : Spanned} → Runs (definition_of c) r → BiasedYear y → year y ≡ z → SpansMonth r y m s → Spans c z m s
+pub span_made : (c : Calendar) {z : ℤ} {r y m : ℕ} {s : Result MonthSpan Refusal} → Runs (definition_of c) r → BiasedYear y → year y ≡ z → SpansMonth r y m s → Spans c z m s
 span_made c {y = y} runs h e (S.spans_month v) = spanned (record { y = y; runs = runs; year_biased = h; year_is = e; is_month = v; span = refl })
 span_made c runs h e (S.no_month n) = no_month runs.accepted n
 
-pub span_refused : {A : Type 0} {c : Calendar} {z : ℤ} {m : ℕ} {f : Refusal} (refused : Refusal → A) {Below : A → Type 0} → Spans c z m (Spanned'.Refused f) → OfAMonth c m refused Below (refused f)
+pub span_refused : {A : Type 0} {c : Calendar} {z : ℤ} {m : ℕ} {f : Refusal} (refused : Refusal → A) {Below : A → Type 0} → Spans c z m (Err f) → OfAMonth c m refused Below (refused f)
 span_refused refused (no_calendar n) = refuses n
 span_refused refused (no_month a n) = passes a (refuses n)
 
@@ -225,8 +219,8 @@ module _ (c : Calendar) {z : ℤ} {m : ℕ} (s : MonthSpan) (p : SpanOf c z m s)
         (lt_or_ge k s.switch)
 
   -- ---- lengths, and the first and the last day
-  pub len_row : Len c z m (Counted'.Number (s.past - s.first))
-  len_row = month_row Counted'.Refused (P.number month_days.days)
+  pub len_row : Len c z m (Ok (s.past - s.first))
+  len_row = month_row Err (P.number month_days.days)
 
   no_days : s.past ≤ s.first → P.NoDay (labels c) z m
   no_days h n o = let (k, e, a, b) = month_days.only n o in never k a b h
@@ -234,32 +228,32 @@ module _ (c : Calendar) {z : ℤ} {m : ℕ} (s : MonthSpan) (p : SpanOf c z m s)
       never : (k : ℕ) → s.first ≤ k → k < s.past → s.past ≤ s.first → ⊥
       never k a b h = omega arith
 
-  pub first_none : s.past ≤ s.first → FirstDayOf c z m (Counted'.Number 0)
-  first_none h = month_row Counted'.Refused (P.number (no_first (no_days h)))
+  pub first_none : s.past ≤ s.first → FirstDayOf c z m (Ok 0)
+  first_none h = month_row Err (P.number (no_first (no_days h)))
 
-  pub last_none : s.past ≤ s.first → LastDayOf c z m (Counted'.Number 0)
-  last_none h = month_row Counted'.Refused (P.number (no_last (no_days h)))
+  pub last_none : s.past ≤ s.first → LastDayOf c z m (Ok 0)
+  last_none h = month_row Err (P.number (no_last (no_days h)))
 
-  pub first_row : {d : ℕ} → s.first < s.past → d ≡ day_in_value s s.first → FirstDayOf c z m (Counted'.Number d)
-  first_row h e = month_row Counted'.Refused (P.number (first (label_in s.first (omega arith) h ∙ ap (label z m) (sym e))
+  pub first_row : {d : ℕ} → s.first < s.past → d ≡ day_in_value s s.first → FirstDayOf c z m (Ok d)
+  first_row h e = month_row Err (P.number (first (label_in s.first (omega arith) h ∙ ap (label z m) (sym e))
       (λ n o. let (k, w, a, b) = month_days.only n o in subst (λ (n : ℤ). day s.first ≤ℤ n) (sym w) (unbias_le day_bias s.first k a))))
 
-  pub last_row : {d : ℕ} → s.first < s.past → d ≡ day_in_value s (s.past - 1) → LastDayOf c z m (Counted'.Number d)
-  last_row h e = month_row Counted'.Refused (P.number (last (label_in (s.past - 1) (omega arith) (omega arith) ∙ ap (label z m) (sym e))
+  pub last_row : {d : ℕ} → s.first < s.past → d ≡ day_in_value s (s.past - 1) → LastDayOf c z m (Ok d)
+  last_row h e = month_row Err (P.number (last (label_in (s.past - 1) (omega arith) (omega arith) ∙ ap (label z m) (sym e))
       (λ n o. let (k, w, a, b) = month_days.only n o in subst (λ (n : ℤ). n ≤ℤ day (s.past - 1)) (sym w) (unbias_le day_bias k (s.past - 1) (omega arith)))))
 
   -- ---- a label of the month
   module _ {x d : ℕ} (h : BiasedYear (biased_year_value x)) (e : year (biased_year_value x) ≡ z) where
-    pub borne_row : {i : Spot} → Finds s.switch x m d (Found'.At i) → Contains c z m d (Told'.Is true)
-    borne_row {i} f = month_row Told'.Refused (borne (day i.biased, found_label c p.runs h e f))
+    pub borne_row : {i : Spot} → Finds s.switch x m d (Ok i) → Contains c z m d (Ok true)
+    borne_row {i} f = month_row Err (borne (day i.biased, found_label c p.runs h e f))
 
-    pub nowhere_row : {r : Refusal} → Finds s.switch x m d (Found'.Refused r) → Contains c z m d (Told'.Is false)
-    nowhere_row f = month_row Told'.Refused (not_borne (refused_nowhere c p.runs h e f))
+    pub nowhere_row : {r : Refusal} → Finds s.switch x m d (Err r) → Contains c z m d (Ok false)
+    nowhere_row f = month_row Err (not_borne (refused_nowhere c p.runs h e f))
 
-    pub refused_place : {r : Refusal} → Finds s.switch x m d (Found'.Refused r) → DayOrdinalOf c z m d (Counted'.Refused r)
-    refused_place f = month_row Counted'.Refused (refused_row c p.runs h e Counted'.Refused f)
+    pub refused_place : {r : Refusal} → Finds s.switch x m d (Err r) → DayOrdinalOf c z m d (Err r)
+    refused_place f = month_row Err (refused_row c p.runs h e Err f)
 
-    module _ {i : Spot} (f : Finds s.switch x m d (Found'.At i)) where
+    module _ {i : Spot} (f : Finds s.switch x m d (Ok i)) where
       found_place : (s.first ≤ i.biased) × (i.biased < s.past) × Place (λ n. OfMonth z m (labels c n)) (day i.biased) (i.biased + 1 - s.first)
       found_place = month_days.here i.biased (label_of_month (found_label c p.runs h e f))
 
@@ -273,16 +267,16 @@ module _ (c : Calendar) {z : ℤ} {m : ℕ} (s : MonthSpan) (p : SpanOf c z m s)
       pub found_few : i.biased + 1 - s.first < 2 ^ 32
       found_few = omega (arith, found_place.1, span_few)
 
-      pub place_row : DayOrdinalOf c z m d (Counted'.Number (i.biased + 1 - s.first))
+      pub place_row : DayOrdinalOf c z m d (Ok (i.biased + 1 - s.first))
       place_row =
           let l : labels c (day i.biased) ≡ label z m d = found_label c p.runs h e f in
-          month_row Counted'.Refused (label_row c p.runs h e Counted'.Refused f
+          month_row Err (label_row c p.runs h e Err f
           (P.number (day i.biased, l, subst (λ (l : Label). Place (λ n. OfMonth l.year l.month (labels c n)) (day i.biased) (i.biased + 1 - s.first)) (sym l) found_place.2)))
 
   -- ---- the k-th day
   module _ (k : ℕ) where
     off_by : ((k ≡ 0) ⊎ (s.past - s.first < k)) → NthDay c z m k (refused_number 21 k)
-    off_by n = month_row Counted'.Refused (refuses (s.past - s.first, month_days.days, n))
+    off_by n = month_row Err (refuses (s.past - s.first, month_days.days, n))
 
     pub off_low : k < 1 → NthDay c z m k (refused_number 21 k)
     off_low h = off_by (inl (omega arith))
@@ -290,11 +284,11 @@ module _ (c : Calendar) {z : ℤ} {m : ℕ} (s : MonthSpan) (p : SpanOf c z m s)
     pub off_high : s.past ≤ s.first + k - 1 → 1 ≤ k → NthDay c z m k (refused_number 21 k)
     off_high h u = off_by (inr (omega (arith, span_ordered)))
 
-    pub nth_row : {d : ℕ} → 1 ≤ k → s.first + k - 1 < s.past → d ≡ day_in_value s (s.first + k - 1) → NthDay c z m k (Counted'.Number d)
+    pub nth_row : {d : ℕ} → 1 ≤ k → s.first + k - 1 < s.past → d ≡ day_in_value s (s.first + k - 1) → NthDay c z m k (Ok d)
     nth_row u v e =
         let a : s.first ≤ s.first + k - 1 = omega arith in
         let o = month_days.inside (s.first + k - 1) a v in
-        month_row Counted'.Refused (passes not_off (P.number (
+        month_row Err (passes not_off (P.number (
           day (s.first + k - 1),
           record { of_month = o; place = subst (Place (λ n. OfMonth z m (labels c n)) (day (s.first + k - 1))) (back s.first u) (month_days.here (s.first + k - 1) o).2 },
           label_in (s.first + k - 1) a v ∙ ap (label z m) (sym e),
@@ -313,13 +307,13 @@ module _ (c : Calendar) {z : ℤ} {m : ℕ} (s : MonthSpan) (p : SpanOf c z m s)
             never_high w q = omega arith
 
 -- the record of the k-th day, by its label
-pub nth_refused : {c : Calendar} {z : ℤ} {m k : ℕ} {f : Refusal} → NthDay c z m k (Counted'.Refused f) → NthDate c z m k (Dated'.Refused f)
+pub nth_refused : {c : Calendar} {z : ℤ} {m k : ℕ} {f : Refusal} → NthDay c z m k (Err f) → NthDate c z m k (Err f)
 nth_refused (refuses x) = refuses x
 nth_refused (passes a (refuses x)) = passes a (refuses x)
 nth_refused (passes a (passes v (refuses x))) = passes a (passes v (refuses x))
 nth_refused {c = c} {z = z} {m = m} {k = k} {f = f} (passes a (passes v (passes _ x7))) = elim x7 [ ]
 
-pub nth_date_row : {c : Calendar} {z : ℤ} {m k d : ℕ} {a : Dated} → NthDay c z m k (Counted'.Number d) → AtYmd c z m d a → NthDate c z m k a
+pub nth_date_row : {c : Calendar} {z : ℤ} {m k d : ℕ} {a : Result Date Refusal} → NthDay c z m k (Ok d) → AtYmd c z m d a → NthDate c z m k a
 nth_date_row (passes x (passes v (passes n (P.number (i, p, e))))) (refuses y) = absurd (y x)
 nth_date_row (passes x (passes v (passes n (P.number (i, p, e))))) (passes y (refuses w)) = absurd (w v)
 nth_date_row (passes x (passes v (passes n (P.number (i, p, e))))) (passes y (passes w (refuses f))) = absurd (f.0 (i, e))

@@ -1,25 +1,20 @@
 -- What the calls promise: the rows of the table of refusals that each can meet, in the table's order, and then its answer. Years and months
 -- are those of the unbounded calendar; only a record asks for a day of 32 bits.
-use Rattle.std.specs.Prelude.{◌≡◌, true, false, ◌⊎◌, ℕ, ◌<◌, ℤ, pos, ◌≤ℤ◌}
+use Rattle.std.specs.Prelude.{◌≡◌, true, false, ◌⊎◌, ℕ, ◌<◌, ℤ, pos, ◌≤ℤ◌, Result, Ok, Err, Bool}
 use Rattle.days.specs.DayByDay.{Label, label, Borne, OfMonth, Place, DayOrdinal, YearLength, MonthLength, Month}
 use Rattle.calendar.specs.declared.Calendar.{Calendar}
 use Rattle.refusals.specs.declared.Refusal.{Refusal}
-use Rattle.calendar.specs.declared.Counted.{Counted}
-use Rattle.calendar.specs.declared.Counted.TheVariants as Counted'
-use Rattle.calendar.specs.declared.Told.{Told}
-use Rattle.calendar.specs.declared.Told.TheVariants as Told'
-use Rattle.calendar.specs.declared.Dated.{Dated}
-use Rattle.calendar.specs.declared.Dated.TheVariants as Dated'
 use Rattle.calendar.specs.Calendars.{labels, Accepted}
 use Rattle.calendar.specs.Rows.{Unless, If}
 use Rattle.calendar.specs.Promise.{refusal, made_up, refused, Given, OfALabel}
+use Rattle.calendar.specs.declared.Date.{Date}
 
-abbrev pub refused_number : ℕ → ℕ → Counted
-refused_number n v = Counted'.Refused (refusal n (pos v))
+abbrev pub refused_number : ℕ → ℕ → Result ℕ Refusal
+refused_number n v = Err (refusal n (pos v))
 
 -- the answer is a number with P
-pub data Number (P : ℕ → Type 0) : Counted → Type 0 where
-  number : {k : ℕ} → P k → Number P (Counted'.Number k)
+pub data Number (P : ℕ → Type 0) : Result ℕ Refusal → Type 0 where
+  number : {k : ℕ} → P k → Number P (Ok k)
 
 -- a question of a month: 16, 3, and then the rows below
 abbrev pub OfAMonth : {A : Type 0} → Calendar → ℕ → (Refusal → A) → (A → Type 0) → A → Type 0
@@ -28,12 +23,12 @@ OfAMonth c m refused Below = Unless (Accepted c) (refused made_up) (Unless (Mont
 -- ---- Lengths
 
 -- year_length: 16, or the number of days of the year
-abbrev pub YearLengthOf : Calendar → ℤ → Counted → Type 0
-YearLengthOf c y = Unless (Accepted c) (Counted'.Refused made_up) (Number (YearLength (labels c) y))
+abbrev pub YearLengthOf : Calendar → ℤ → Result ℕ Refusal → Type 0
+YearLengthOf c y = Unless (Accepted c) (Err made_up) (Number (YearLength (labels c) y))
 
 -- len: 16, 3, or the number of days of the month
-abbrev pub Len : Calendar → ℤ → ℕ → Counted → Type 0
-Len c y m = OfAMonth c m Counted'.Refused (Number (MonthLength (labels c) y m))
+abbrev pub Len : Calendar → ℤ → ℕ → Result ℕ Refusal → Type 0
+Len c y m = OfAMonth c m Err (Number (MonthLength (labels c) y m))
 
 -- ---- The first and the last day
 
@@ -52,30 +47,30 @@ pub data LastDay (f : ℤ → Label) (y : ℤ) (m : ℕ) : ℕ → Type 0 where
   no_last : NoDay f y m → LastDay f y m 0
 
 -- first_day, last_day: 16, 3, or the day of the month
-abbrev pub FirstDayOf : Calendar → ℤ → ℕ → Counted → Type 0
-FirstDayOf c y m = OfAMonth c m Counted'.Refused (Number (FirstDay (labels c) y m))
+abbrev pub FirstDayOf : Calendar → ℤ → ℕ → Result ℕ Refusal → Type 0
+FirstDayOf c y m = OfAMonth c m Err (Number (FirstDay (labels c) y m))
 
-abbrev pub LastDayOf : Calendar → ℤ → ℕ → Counted → Type 0
-LastDayOf c y m = OfAMonth c m Counted'.Refused (Number (LastDay (labels c) y m))
+abbrev pub LastDayOf : Calendar → ℤ → ℕ → Result ℕ Refusal → Type 0
+LastDayOf c y m = OfAMonth c m Err (Number (LastDay (labels c) y m))
 
 -- ---- A day of the month
 
 -- whether some day bears the label
-pub data Bears (f : ℤ → Label) (l : Label) : Told → Type 0 where
-  borne : Borne f l → Bears f l (Told'.Is true)
-  not_borne : ¬ Borne f l → Bears f l (Told'.Is false)
+pub data Bears (f : ℤ → Label) (l : Label) : Result Bool Refusal → Type 0 where
+  borne : Borne f l → Bears f l (Ok true)
+  not_borne : ¬ Borne f l → Bears f l (Ok false)
 
 -- contains: 16, 3, or the answer
-abbrev pub Contains : Calendar → ℤ → ℕ → ℕ → Told → Type 0
-Contains c y m d = OfAMonth c m Told'.Refused (Bears (labels c) (label y m d))
+abbrev pub Contains : Calendar → ℤ → ℕ → ℕ → Result Bool Refusal → Type 0
+Contains c y m d = OfAMonth c m Err (Bears (labels c) (label y m d))
 
 -- the day that bears the label has the place k among the days of its month
 abbrev pub PlaceOf : (ℤ → Label) → Label → ℕ → Type 0
 PlaceOf f l k = (n : ℤ) × (f n ≡ l) × DayOrdinal f n k
 
 -- day_ordinal: 16, 3, 4, 5, or the place
-abbrev pub DayOrdinalOf : Calendar → ℤ → ℕ → ℕ → Counted → Type 0
-DayOrdinalOf c y m d = OfAMonth c m Counted'.Refused (OfALabel c y m d Counted'.Refused (Number (PlaceOf (labels c) (label y m d))))
+abbrev pub DayOrdinalOf : Calendar → ℤ → ℕ → ℕ → Result ℕ Refusal → Type 0
+DayOrdinalOf c y m d = OfAMonth c m Err (OfALabel c y m d Err (Number (PlaceOf (labels c) (label y m d))))
 
 -- ---- The k-th day of a month
 
@@ -93,13 +88,13 @@ abbrev pub NthLabel : (ℤ → Label) → ℤ → ℕ → ℕ → ℕ → Type 0
 NthLabel f y m k d = (n : ℤ) × IsNth f y m k n × (f n ≡ label y m d)
 
 -- nth_day: 16, 3, 21, or the day of the month
-abbrev pub NthDay : Calendar → ℤ → ℕ → ℕ → Counted → Type 0
-NthDay c y m k = OfAMonth c m Counted'.Refused (If (OffMonth c y m k) (refused_number 21 k) (Number (NthLabel (labels c) y m k)))
+abbrev pub NthDay : Calendar → ℤ → ℕ → ℕ → Result ℕ Refusal → Type 0
+NthDay c y m k = OfAMonth c m Err (If (OffMonth c y m k) (refused_number 21 k) (Number (NthLabel (labels c) y m k)))
 
 -- its record
-pub data NthRecord (c : Calendar) (y : ℤ) (m k : ℕ) : Dated → Type 0 where
-  nth_record : {n : ℤ} → IsNth (labels c) y m k n → {a : Dated} → Given c y n a → NthRecord c y m k a
+pub data NthRecord (c : Calendar) (y : ℤ) (m k : ℕ) : Result Date Refusal → Type 0 where
+  nth_record : {n : ℤ} → IsNth (labels c) y m k n → {a : Result Date Refusal} → Given c y n a → NthRecord c y m k a
 
 -- nth_date: 16, 3, 21, 7, or the record
-abbrev pub NthDate : Calendar → ℤ → ℕ → ℕ → Dated → Type 0
-NthDate c y m k = OfAMonth c m Dated'.Refused (If (OffMonth c y m k) (refused 21 (pos k)) (NthRecord c y m k))
+abbrev pub NthDate : Calendar → ℤ → ℕ → ℕ → Result Date Refusal → Type 0
+NthDate c y m k = OfAMonth c m Err (If (OffMonth c y m k) (refused 21 (pos k)) (NthRecord c y m k))

@@ -1,7 +1,7 @@
 -- What follows from the promises: the lengths of the months of a year add up to its length, and the position of a day and the day of a
 -- position undo each other.
 -- Assumes nothing.
-use Rattle.std.specs.Prelude.{◌≡◌, refl, ◌⊎◌, ℕ, zero, suc, ◌+◌, ◌-◌, ◌<◌, ◌≤◌, ◌^◌, ℤ, pos, neg_ℤ, ◌+ℤ◌, ◌-ℤ◌, ◌<ℤ◌, ◌≤ℤ◌}
+use Rattle.std.specs.Prelude.{◌≡◌, refl, ◌⊎◌, ℕ, zero, suc, ◌+◌, ◌-◌, ◌<◌, ◌≤◌, ◌^◌, ℤ, pos, neg_ℤ, ◌+ℤ◌, ◌-ℤ◌, ◌<ℤ◌, ◌≤ℤ◌, Result, Ok, Err}
 use Rattle.std.proofs.Common.{sym, ◌∙◌, ap, ap₂, subst, subst₂, inl, inr, ⊎_elim, arith, add-one}
 use Rattle.std.proofs.Math.IntN.{+ℤ_idr, +ℤ_assoc, neg_ℤ-+ℤ, pos-+ℤ-pos}
 use Rattle.std.specs.Int.Signed.{≤ℤ_refl, clash_ℤ}
@@ -21,9 +21,6 @@ use Rattle.days.proofs.ClosedRuns.{gregorian_runs, on_new, day_ordinal_at}
 use Rattle.calendar.specs.declared.Calendar.{Calendar}
 use Rattle.calendar.specs.declared.Calendar.TheVariants.{Gregorian}
 use Rattle.calendar.specs.declared.Date.{Date}
-use Rattle.calendar.specs.declared.Counted.TheVariants as Counted'
-use Rattle.calendar.specs.declared.Dated.{Dated}
-use Rattle.calendar.specs.declared.Dated.TheVariants as Dated'
 use Rattle.calendar.specs.Calendars.{definition_of, labels}
 use Rattle.calendar.specs.Rows.{refuses, passes}
 use Rattle.refusals.specs.declared.Refusal.{Refusal}
@@ -163,10 +160,10 @@ year_of_months {f} up good y k all = subst (YearLength f y) same (same_days (λ 
     same = omega arith
 
 -- so what `len` answers for the months of a year adds up to what `year_length` answers
-pub lengths_add_up : (c : Calendar) (y : ℤ) (k : ℕ → ℕ) {t : ℕ} → ((m : ℕ) → Month m → Len c y m (Counted'.Number (k m))) → YearLengthOf c y (Counted'.Number t) → t ≡ twelve_months k
+pub lengths_add_up : (c : Calendar) (y : ℤ) (k : ℕ → ℕ) {t : ℕ} → ((m : ℕ) → Month m → Len c y m (Ok (k m))) → YearLengthOf c y (Ok t) → t ≡ twelve_months k
 lengths_add_up c y k all (passes a (number p)) = days_one p (year_of_months (accepted_rises a) (labels_proper (definition_of c)) y k (λ m v. is_len (all m v)))
   where
-    is_len : {m n : ℕ} → Len c y m (Counted'.Number n) → MonthLength (labels c) y m n
+    is_len : {m n : ℕ} → Len c y m (Ok n) → MonthLength (labels c) y m n
     is_len (passes a (passes v (number p))) = p
 
 -- ---- The position of a day, and the day of a position
@@ -178,15 +175,15 @@ nth_place f {k = k} {n} e p = subst (λ (l : Label). Place (λ i. OfMonth l.year
 
 module _ (c : Calendar) (y : ℤ) (m : ℕ) where
   -- `nth_day` of the position that `day_ordinal` answers is that day
-  pub nth_of_place : {d k e : ℕ} → DayOrdinalOf c y m d (Counted'.Number k) → NthDay c y m k (Counted'.Number e) → e ≡ d
+  pub nth_of_place : {d k e : ℕ} → DayOrdinalOf c y m d (Ok k) → NthDay c y m k (Ok e) → e ≡ d
   nth_of_place {d} {k} {e} (passes a (passes v (passes i (passes s (number (n, q, p)))))) (passes b (passes w (passes o (number g)))) = nth_label_one (labels c) y m k e d g (n, place_nth (labels c) q p, q)
 
   -- and `day_ordinal` of the day that `nth_day` answers is the position
-  pub place_of_nth : {d k j : ℕ} → NthDay c y m k (Counted'.Number d) → DayOrdinalOf c y m d (Counted'.Number j) → j ≡ k
+  pub place_of_nth : {d k j : ℕ} → NthDay c y m k (Ok d) → DayOrdinalOf c y m d (Ok j) → j ≡ k
   place_of_nth {d} {k} {j} (passes b (passes w (passes o (number (n, g, q))))) (passes a (passes v (passes i (passes s (number p))))) = place_of_one (accepted_rises a) j k p (n, q, nth_place (labels c) q g)
 
   -- `nth_date` of the position of a day answers what `at_ymd` answers for the day
-  pub date_of_place : {d k : ℕ} {a : Dated} → DayOrdinalOf c y m d (Counted'.Number k) → NthDate c y m k a → AtYmd c y m d a
+  pub date_of_place : {d k : ℕ} {a : Result Date Refusal} → DayOrdinalOf c y m d (Ok k) → NthDate c y m k a → AtYmd c y m d a
   date_of_place (passes x (passes v (passes i (passes s (number (n, q, p)))))) (refuses f) = absurd (f x)
   date_of_place (passes x (passes v (passes i (passes s (number (n, q, p)))))) (passes b (refuses f)) = absurd (f v)
   date_of_place {k = k} (passes x (passes v (passes i (passes s (number (n, q, p)))))) (passes b (passes w (refuses (t, l, o)))) =
@@ -203,12 +200,12 @@ module _ (c : Calendar) (y : ℤ) (m : ℕ) where
       passes x (passes v (passes i (passes s (on_label q (subst (λ (z : ℤ). Given c y z a) (is_nth_one g (place_nth (labels c) q p)) r)))))
 
   -- and the day of the record that `nth_date` answers has that position
-  pub place_of_date : {k : ℕ} {t : Date} → NthDate c y m k (Dated'.Date t) → DayOrdinalOf c y m t.day (Counted'.Number k)
+  pub place_of_date : {k : ℕ} {t : Date} → NthDate c y m k (Ok t) → DayOrdinalOf c y m t.day (Ok k)
   place_of_date {k} {t} (passes x (passes v (passes o (nth_record {n} g (passes f (record_of p)))))) =
       let e : labels c n ≡ label y m t.day = p.label_is ∙ ap₂ (λ (z : ℤ) (i : ℕ). label z i t.day) (ap (λ (l : Label). l.year) (sym p.label_is) ∙ g.of_month.0) (ap (λ (l : Label). l.month) (sym p.label_is) ∙ g.of_month.1) in
       passes x (passes v (passes (λ i. i.0 (n, e)) (passes (λ s. skipped_nowhere x s (n, e)) (number (n, e, nth_place (labels c) e g)))))
 
-  pub place_in_record : {k : ℕ} {t : Date} → NthDate c y m k (Dated'.Date t) → t.day_ordinal ≡ k
+  pub place_in_record : {k : ℕ} {t : Date} → NthDate c y m k (Ok t) → t.day_ordinal ≡ k
   place_in_record {k} (passes x (passes v (passes o (nth_record {n} g (passes f (record_of p)))))) =
       place_one p.day_ordinal_is (subst₂ (λ (z : ℤ) (i : ℕ). Place (λ j. OfMonth z i (labels c j)) n k) (sym g.of_month.0) (sym g.of_month.1) g.place)
 
@@ -239,7 +236,7 @@ borne : {A : Type 0} (refused : Refusal → A) {r : A} {Below : A → Type 0} �
     → OfAMonth Gregorian 6 refused (OfALabel Gregorian (pos 5_874_898) 6 4 refused Below) r
 borne refused p = passes gregorian_accepted (passes (omega arith, omega arith) (passes (λ i. i.0 fourth_borne) (passes (λ s. skipped_nowhere gregorian_accepted s fourth_borne) p)))
 
-pub fourth_of_june : {a : Dated} → NthDate Gregorian (pos 5_874_898) 6 4 a → a ≡ refused 7 (pos 5_874_898)
+pub fourth_of_june : {a : Result Date Refusal} → NthDate Gregorian (pos 5_874_898) 6 4 a → a ≡ refused 7 (pos 5_874_898)
 fourth_of_june {a} h =
     at_ymd_one Gregorian (pos 5_874_898) 6 4 a (refused 7 (pos 5_874_898))
-    (date_of_place Gregorian (pos 5_874_898) 6 (borne Counted'.Refused (number (pos 2_147_483_648, fourth_label, fourth_place))) h) (borne Dated'.Refused (on_label fourth_label (refuses past_32_bits)))
+    (date_of_place Gregorian (pos 5_874_898) 6 (borne Err (number (pos 2_147_483_648, fourth_label, fourth_place))) h) (borne Err (on_label fourth_label (refuses past_32_bits)))

@@ -8,22 +8,23 @@ ghost use Rattle.std.specs.Prelude.{◌≡◌};
 ghost use Rattle.months.specs.Promise.{YearLengthOf, Len, FirstDayOf, LastDayOf, Contains, DayOrdinalOf, NthDay, NthDate};
 ghost use Rattle.months.specs.Natural.{Spans, Inside, day_in_value};
 
-use calendar::{Calendar, Counted, Dated, Switch, Told, switch_of};
+use calendar::{Calendar, switch_of};
 use refusals::refusal_with;
-use switches::{Found, MonthSpan, Spanned, find, month_span, year_span};
+use switches::{MonthSpan, find, month_span, year_span};
 use whole::raised;
+use refusals::Refusal;
 
 // ---- Years
 
 // The number of days of a year, 0 where no day is of that year.
-pub fn year_length(calendar: Calendar, year: i32) -> Counted
+pub fn year_length(calendar: Calendar, year: i32) -> Result<u32, Refusal>
     ensures { YearLengthOf calendar year result }
 {
     match switch_of(calendar) {
-        Switch::MadeUp => Counted::Refused(refusal_with(16, 0)),
-        Switch::At(switch) => {
+        Err(_) => Err(refusal_with(16, 0)),
+        Ok(switch) => {
             let span = year_span(switch, raised(year));
-            Counted::Number((span.past - span.first) as u32)
+            Ok((span.past - span.first) as u32)
         }
     }
 }
@@ -31,108 +32,108 @@ pub fn year_length(calendar: Calendar, year: i32) -> Counted
 // ---- Months
 
 // The number of days of a month, 0 where no day is of that month.
-pub fn len(calendar: Calendar, year: i32, month: u32) -> Counted
+pub fn len(calendar: Calendar, year: i32, month: u32) -> Result<u32, Refusal>
     ensures { Len calendar year month result }
 {
     match span_of(calendar, year, month) {
-        Spanned::Refused(refusal) => Counted::Refused(refusal),
-        Spanned::Month(s) => Counted::Number((s.past - s.first) as u32),
+        Err(refusal) => Err(refusal),
+        Ok(s) => Ok((s.past - s.first) as u32),
     }
 }
 
 // The day of the month that its first day has, and its last one; 0 where no day is of that month.
-pub fn first_day(calendar: Calendar, year: i32, month: u32) -> Counted
+pub fn first_day(calendar: Calendar, year: i32, month: u32) -> Result<u32, Refusal>
     ensures { FirstDayOf calendar year month result }
 {
     match span_of(calendar, year, month) {
-        Spanned::Refused(refusal) => Counted::Refused(refusal),
-        Spanned::Month(s) => {
+        Err(refusal) => Err(refusal),
+        Ok(s) => {
             if s.past <= s.first {
-                return Counted::Number(0);
+                return Ok(0);
             }
-            Counted::Number(day_in(s, s.first))
+            Ok(day_in(s, s.first))
         }
     }
 }
 
-pub fn last_day(calendar: Calendar, year: i32, month: u32) -> Counted
+pub fn last_day(calendar: Calendar, year: i32, month: u32) -> Result<u32, Refusal>
     ensures { LastDayOf calendar year month result }
 {
     match span_of(calendar, year, month) {
-        Spanned::Refused(refusal) => Counted::Refused(refusal),
-        Spanned::Month(s) => {
+        Err(refusal) => Err(refusal),
+        Ok(s) => {
             if s.past <= s.first {
-                return Counted::Number(0);
+                return Ok(0);
             }
-            Counted::Number(day_in(s, s.past - 1))
+            Ok(day_in(s, s.past - 1))
         }
     }
 }
 
 // Whether a day of the calendar has this year, month and day of the month.
-pub fn contains(calendar: Calendar, year: i32, month: u32, day: u32) -> Told
+pub fn contains(calendar: Calendar, year: i32, month: u32, day: u32) -> Result<bool, Refusal>
     ensures { Contains calendar year month day result }
 {
     match span_of(calendar, year, month) {
-        Spanned::Refused(refusal) => Told::Refused(refusal),
-        Spanned::Month(s) => match find(s.switch, raised(year), month, day) {
-            Found::At(_) => Told::Is(true),
-            Found::Refused(_) => Told::Is(false),
+        Err(refusal) => Err(refusal),
+        Ok(s) => match find(s.switch, raised(year), month, day) {
+            Ok(_) => Ok(true),
+            Err(_) => Ok(false),
         },
     }
 }
 
 // The place, from 1, of a day of the month among the days of the month.
-pub fn day_ordinal(calendar: Calendar, year: i32, month: u32, day: u32) -> Counted
+pub fn day_ordinal(calendar: Calendar, year: i32, month: u32, day: u32) -> Result<u32, Refusal>
     ensures { DayOrdinalOf calendar year month day result }
 {
     match span_of(calendar, year, month) {
-        Spanned::Refused(refusal) => Counted::Refused(refusal),
-        Spanned::Month(s) => match find(s.switch, raised(year), month, day) {
-            Found::At(spot) => Counted::Number((spot.biased + 1 - s.first) as u32),
-            Found::Refused(refusal) => Counted::Refused(refusal),
+        Err(refusal) => Err(refusal),
+        Ok(s) => match find(s.switch, raised(year), month, day) {
+            Ok(spot) => Ok((spot.biased + 1 - s.first) as u32),
+            Err(refusal) => Err(refusal),
         },
     }
 }
 
 // The day of the month that the month's k-th day has.
-pub fn nth_day(calendar: Calendar, year: i32, month: u32, k: u32) -> Counted
+pub fn nth_day(calendar: Calendar, year: i32, month: u32, k: u32) -> Result<u32, Refusal>
     ensures { NthDay calendar year month k result }
 {
     match span_of(calendar, year, month) {
-        Spanned::Refused(refusal) => Counted::Refused(refusal),
-        Spanned::Month(s) => {
+        Err(refusal) => Err(refusal),
+        Ok(s) => {
             if k < 1 {
-                return Counted::Refused(refusal_with(21, k));
+                return Err(refusal_with(21, k));
             }
             let biased = s.first + k as u64 - 1;
             if s.past <= biased {
-                return Counted::Refused(refusal_with(21, k));
+                return Err(refusal_with(21, k));
             }
-            Counted::Number(day_in(s, biased))
+            Ok(day_in(s, biased))
         }
     }
 }
 
 // The record of the month's k-th day.
-pub fn nth_date(calendar: Calendar, year: i32, month: u32, k: u32) -> Dated
+pub fn nth_date(calendar: Calendar, year: i32, month: u32, k: u32) -> Result<Date, Refusal>
     ensures { NthDate calendar year month k result }
 {
     match nth_day(calendar, year, month, k) {
-        Counted::Refused(refusal) => Dated::Refused(refusal),
-        Counted::Number(day) => calendar.at_ymd(year, month, day),
+        Err(refusal) => Err(refusal),
+        Ok(day) => calendar.at_ymd(year, month, day),
     }
 }
 
 // ---- The run of days of a month
 
 // Its first day and the first day past it, by numbers of days.
-pub fn span_of(calendar: Calendar, year: i32, month: u32) -> Spanned
+pub fn span_of(calendar: Calendar, year: i32, month: u32) -> Result<MonthSpan, Refusal>
     ensures { Spans calendar year month result }
 {
     match switch_of(calendar) {
-        Switch::MadeUp => Spanned::Refused(refusal_with(16, 0)),
-        Switch::At(switch) => month_span(switch, raised(year), month),
+        Err(_) => Err(refusal_with(16, 0)),
+        Ok(switch) => month_span(switch, raised(year), month),
     }
 }
 

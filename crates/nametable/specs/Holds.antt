@@ -1,9 +1,8 @@
 -- Of which memory it is true that it holds a list of names with their numbers, and that a name is then found exactly if the list has it.
-use Rattle.std.specs.Prelude.{◌≡◌, ℕ, ◌+◌, ◌-◌, ◌*◌, ◌<◌, ◌≤◌, List, length}
+use Rattle.std.specs.Prelude.{◌≡◌, ℕ, ◌+◌, ◌-◌, ◌*◌, ◌<◌, ◌≤◌, List, length, Option, Some, None, ℤ}
 use Rattle.nametable.specs.Limits.{most_lines, most_name, slot, heads}
 use Rattle.nametable.specs.Houses.{House, line_at, name_at}
 use Rattle.nametable.specs.Hash.{bucket_of_value}
-use Rattle.nametable.specs.declared.Found.{Found}
 use Rattle.nametable.specs.Promise.{Memory, Stands, head_of, next_of, number_of}
 
 abbrev pub chain_at : List House → ℕ → ℕ
@@ -30,6 +29,6 @@ pub record Holds (m : Memory) (hs : List House) : Type 0 where
   pub next : (k : ℕ) → k < length hs → Latest hs (chain_at hs k) k (next_of m.links k)
 
 -- the list has the name with this number, or has no line with the name
-pub data Has (hs : List House) (s : List ℕ) : Found → Type 0 where
-  has : (k : ℕ) → k < length hs → name_at hs k ≡ s → Has hs s (Found.Number (line_at hs k).number)
-  has_not : ((k : ℕ) → k < length hs → ¬ (name_at hs k ≡ s)) → Has hs s Found.Nowhere
+pub data Has (hs : List House) (s : List ℕ) : Option ℤ → Type 0 where
+  has : (k : ℕ) → k < length hs → name_at hs k ≡ s → Has hs s (Some (line_at hs k).number)
+  has_not : ((k : ℕ) → k < length hs → ¬ (name_at hs k ≡ s)) → Has hs s None

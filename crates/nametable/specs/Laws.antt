@@ -1,13 +1,11 @@
 -- Why the functions meet their promises: a slot compared, links followed, a name put into its slot.
-use Rattle.std.specs.Prelude.{◌≡◌, ℕ, ◌+◌, ◌-◌, ◌*◌, ◌^◌, ◌<◌, ◌≤◌, Bool, true, false, List, length, set, ℤ, slice_index, slice_set, refl}
+use Rattle.std.specs.Prelude.{◌≡◌, ℕ, ◌+◌, ◌-◌, ◌*◌, ◌^◌, ◌<◌, ◌≤◌, Bool, true, false, List, length, set, ℤ, slice_index, slice_set, refl, Option, Some, None}
 use Rattle.std.proofs.Common.{sym, ◌∙◌, ap, subst, arith}
 use Rattle.whole.specs.Promise.{unbias}
 use Rattle.whole.specs.Whether.{Whether}
 use Rattle.writer.specs.Promise.{put, Copies, copied, no_room}
-use Rattle.writer.specs.declared.buffer.Copied.{Copied}
 use Rattle.nametable.specs.Limits.{most_lines, most_name, slot}
 use Rattle.nametable.specs.Hash.{bucket_of_value}
-use Rattle.nametable.specs.declared.Found.{Found}
 use Rattle.nametable.specs.Promise.{Memory, memory, Alike, Stands, head_of, next_of, number_of, Walk, ended, here, astray, onward, Finds, walks, lost, entered, linked, Enters, enters}
 
 pub stands_by : (names : List ℕ) (k : ℕ) (s : List ℕ) (b : Bool) → slice_index names (k * slot + most_name) ≡ length s → Whether (Alike s names (k * slot)) b → Whether (Stands names k s) b
@@ -18,21 +16,21 @@ stands_by names k s false e n = λ w. n w.bytes
 
 pub record Walking (m : Memory) (s : List ℕ) (from at : ℕ) : Type 0 where
   pub few : at ≤ most_lines
-  pub leads : (a : Found) → Walk m s at a → Walk m s from a
+  pub leads : (a : Option ℤ) → Walk m s at a → Walk m s from a
 
 pub walking_start : (m : Memory) (s : List ℕ) (from : ℕ) → from ≤ most_lines → Walking m s from from
 walking_start m s from h = record { few = h; leads = λ a w. w }
 
 module _ {m : Memory} {s : List ℕ} {from at : ℕ} (g : Walking m s from at) where
-  pub walking_ended : at ≤ 0 → Walk m s from Found.Nowhere
+  pub walking_ended : at ≤ 0 → Walk m s from None
   walking_ended h = g.leads _ (ended h)
 
   module _ (h : 0 < at) where
-    pub walking_here : {z : ℤ} → Stands m.names (at - 1) s → z ≡ number_of m.links (at - 1) → Walk m s from (Found.Number z)
-    walking_here w e = subst (λ (x : ℤ). Walk m s from (Found.Number x)) (sym e) (g.leads _ (here h w))
+    pub walking_here : {z : ℤ} → Stands m.names (at - 1) s → z ≡ number_of m.links (at - 1) → Walk m s from (Some z)
+    walking_here w e = subst (λ (x : ℤ). Walk m s from (Some x)) (sym e) (g.leads _ (here h w))
 
     module _ {next : ℕ} (n : ¬ Stands m.names (at - 1) s) (e : next ≡ next_of m.links (at - 1)) where
-      pub walking_astray : at ≤ next → Walk m s from Found.Nowhere
+      pub walking_astray : at ≤ next → Walk m s from None
       walking_astray l = g.leads _ (astray h n (subst (λ (x : ℕ). at ≤ x) e l))
 
       pub walking_on : next < at → Walking m s from next
@@ -47,19 +45,19 @@ module _ (m : Memory) (s : List ℕ) {b from : ℕ} (h : length s ≤ most_name)
   head_is : from ≡ head_of m.links (bucket_of_value s)
   head_is = f ∙ ap (head_of m.links) e
 
-  pub finds_lost : most_lines < from → Finds m s Found.Nowhere
+  pub finds_lost : most_lines < from → Finds m s None
   finds_lost l = lost h (subst (λ (x : ℕ). most_lines < x) head_is l)
 
-  pub finds_walk : {a : Found} → from ≤ most_lines → Walk m s from a → Finds m s a
+  pub finds_walk : {a : Option ℤ} → from ≤ most_lines → Walk m s from a → Finds m s a
   finds_walk {a} l w = walks h (subst (λ (x : ℕ). x ≤ most_lines) head_is l) (subst (λ (x : ℕ). Walk m s x a) head_is w)
 
 -- ---- a name put into its slot
 
-copied_in : {t b : List ℕ} {at : ℕ} {b' : List ℕ} {r : Copied} → at + length t ≤ length b → Copies t b at b' r → b' ≡ put b at t
+copied_in : {t b : List ℕ} {at : ℕ} {b' : List ℕ} {r : Option ℕ} → at + length t ≤ length b → Copies t b at b' r → b' ≡ put b at t
 copied_in h (copied k) = refl
 copied_in h (no_room k) = absurd (omega arith)
 
-pub entered_so : {names : List ℕ} {k : ℕ} {s b : List ℕ} {r : Copied} → k < most_lines → length s ≤ most_name → length names ≡ most_lines * slot → Copies s names (k * slot) b r → slice_set b (k * slot + most_name) (length s) ≡ entered names k s
+pub entered_so : {names : List ℕ} {k : ℕ} {s b : List ℕ} {r : Option ℕ} → k < most_lines → length s ≤ most_name → length names ≡ most_lines * slot → Copies s names (k * slot) b r → slice_set b (k * slot + most_name) (length s) ≡ entered names k s
 entered_so {names} {k} {s} h l e c = ap (λ (x : List ℕ). set x (k * slot + most_name) (length s)) (copied_in (omega arith) c)
 
 pub enters_so : {names links : List ℕ} {k : ℕ} {s : List ℕ} {z : ℤ} {n l : List ℕ} {b : ℕ} (d : ℕ) → k < most_lines → length s ≤ most_name → n ≡ entered names k s → l ≡ linked links k b d → b ≡ bucket_of_value s → unbias (2 ^ 31) d ≡ z → Enters (memory names links) k s z (memory n l) true

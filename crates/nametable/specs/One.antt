@@ -1,9 +1,8 @@
 -- Two results that a promise allows are equal, whatever the memory holds.
-use Rattle.std.specs.Prelude.{◌≡◌, ℕ, ◌^◌, ◌<◌, Bool, List, length, ℤ, refl}
+use Rattle.std.specs.Prelude.{◌≡◌, ℕ, ◌^◌, ◌<◌, Bool, List, length, ℤ, refl, Option}
 use Rattle.std.proofs.Common.{sym, ◌∙◌, ap, subst, arith, ext_get_or}
 use Rattle.whole.specs.Biased.{unbias_injective}
 use Rattle.nametable.specs.Hash.{bucket_of_value}
-use Rattle.nametable.specs.declared.Found.{Found}
 use Rattle.nametable.specs.Promise.{Memory, memory, Stands, Walk, ended, here, astray, onward, Finds, too_long, lost, walks, entered, linked, Enters, no_slot, no_room, enters}
 
 -- a slot holds one name
@@ -12,7 +11,7 @@ stands_one {names} {k} {s} {t} p q =
     let e : length s ≡ length t = sym p.long ∙ q.long in
     ext_get_or 0 s t e (λ i h. p.bytes i h ∙ sym (q.bytes i (subst (λ (n : ℕ). i < n) e h)))
 
-pub walk_one : {m : Memory} {s : List ℕ} {at : ℕ} {a b : Found} → Walk m s at a → Walk m s at b → a ≡ b
+pub walk_one : {m : Memory} {s : List ℕ} {at : ℕ} {a b : Option ℤ} → Walk m s at a → Walk m s at b → a ≡ b
 walk_one (ended h) (ended k) = refl
 walk_one (ended h) (here k w) = absurd (omega arith)
 walk_one (ended h) (astray k n l) = absurd (omega arith)
@@ -30,7 +29,7 @@ walk_one (onward h m l v) (here k w) = absurd (m w)
 walk_one (onward h m l v) (astray k n o) = absurd (omega arith)
 walk_one (onward h m l v) (onward k n o w) = walk_one v w
 
-pub finds_one : {m : Memory} {s : List ℕ} {a b : Found} → Finds m s a → Finds m s b → a ≡ b
+pub finds_one : {m : Memory} {s : List ℕ} {a b : Option ℤ} → Finds m s a → Finds m s b → a ≡ b
 finds_one (too_long h) (too_long k) = refl
 finds_one (too_long h) (lost k l) = refl
 finds_one (too_long h) (walks k l w) = absurd (omega arith)

@@ -1,11 +1,10 @@
 -- What lent memory stands for: a name has the number that is found along its chain of links. Every content of the memory has a meaning; of which
 -- content it holds a list of names with their numbers is said in `Holds`. A byte is any number below 256.
-use Rattle.std.specs.Prelude.{◌≡◌, ℕ, ◌+◌, ◌-◌, ◌*◌, ◌^◌, ◌<◌, ◌≤◌, Bool, true, false, List, length, ℤ, slice_index, slice_index_or, slice_set}
+use Rattle.std.specs.Prelude.{◌≡◌, ℕ, ◌+◌, ◌-◌, ◌*◌, ◌^◌, ◌<◌, ◌≤◌, Bool, true, false, List, length, ℤ, slice_index, slice_index_or, slice_set, Option, Some, None}
 use Rattle.whole.specs.Promise.{unbias}
 use Rattle.writer.specs.Promise.{put}
 use Rattle.nametable.specs.Limits.{most_lines, most_name, slot, heads}
 use Rattle.nametable.specs.Hash.{bucket_of_value}
-use Rattle.nametable.specs.declared.Found.{Found}
 
 pub record Memory : Type 0 where
   pub names : List ℕ
@@ -37,16 +36,16 @@ number_of links k = unbias (2 ^ 31) (slice_index links (heads + 2 * k + 1))
 
 -- ---- finding: from the link `at`, which is one more than the number of a line, or 0
 
-pub data Walk (m : Memory) (s : List ℕ) : ℕ → Found → Type 0 where
-  ended : {at : ℕ} → at ≤ 0 → Walk m s at Found.Nowhere
-  here : {at : ℕ} → 0 < at → Stands m.names (at - 1) s → Walk m s at (Found.Number (number_of m.links (at - 1)))
-  astray : {at : ℕ} → 0 < at → ¬ Stands m.names (at - 1) s → at ≤ next_of m.links (at - 1) → Walk m s at Found.Nowhere
-  onward : {at : ℕ} {a : Found} → 0 < at → ¬ Stands m.names (at - 1) s → next_of m.links (at - 1) < at → Walk m s (next_of m.links (at - 1)) a → Walk m s at a
+pub data Walk (m : Memory) (s : List ℕ) : ℕ → Option ℤ → Type 0 where
+  ended : {at : ℕ} → at ≤ 0 → Walk m s at None
+  here : {at : ℕ} → 0 < at → Stands m.names (at - 1) s → Walk m s at (Some (number_of m.links (at - 1)))
+  astray : {at : ℕ} → 0 < at → ¬ Stands m.names (at - 1) s → at ≤ next_of m.links (at - 1) → Walk m s at None
+  onward : {at : ℕ} {a : Option ℤ} → 0 < at → ¬ Stands m.names (at - 1) s → next_of m.links (at - 1) < at → Walk m s (next_of m.links (at - 1)) a → Walk m s at a
 
-pub data Finds (m : Memory) (s : List ℕ) : Found → Type 0 where
-  too_long : most_name < length s → Finds m s Found.Nowhere
-  lost : length s ≤ most_name → most_lines < head_of m.links (bucket_of_value s) → Finds m s Found.Nowhere
-  walks : {a : Found} → length s ≤ most_name → head_of m.links (bucket_of_value s) ≤ most_lines → Walk m s (head_of m.links (bucket_of_value s)) a → Finds m s a
+pub data Finds (m : Memory) (s : List ℕ) : Option ℤ → Type 0 where
+  too_long : most_name < length s → Finds m s None
+  lost : length s ≤ most_name → most_lines < head_of m.links (bucket_of_value s) → Finds m s None
+  walks : {a : Option ℤ} → length s ≤ most_name → head_of m.links (bucket_of_value s) ≤ most_lines → Walk m s (head_of m.links (bucket_of_value s)) a → Finds m s a
 
 -- ---- entering: line k comes first in its chain
 

@@ -1,6 +1,6 @@
 -- In memory that holds a list a name is found exactly if the list has it, with its number there; cleared memory holds the empty list; and entering a
 -- name keeps what is held and adds the name.
-use Rattle.std.specs.Prelude.{◌≡◌, ℕ, ◌+◌, ◌-◌, ◌*◌, ◌^◌, ◌<◌, ◌≤◌, Bool, true, false, List, [], ◌∷◌, ◌++◌, length, take, drop, ℤ, pos, ◌==◌, slice_index, slice_index_or, slice_set, refl}
+use Rattle.std.specs.Prelude.{◌≡◌, ℕ, ◌+◌, ◌-◌, ◌*◌, ◌^◌, ◌<◌, ◌≤◌, Bool, true, false, List, [], ◌∷◌, ◌++◌, length, take, drop, ℤ, pos, ◌==◌, slice_index, slice_index_or, slice_set, refl, Option, Some}
 use Rattle.std.proofs.Common.{sym, ◌∙◌, ap, subst, ⊎_elim, arith, not-suc-le-zero, length-set, length-append, length-take-le, get_or-append-add, get_or-take, get_or-set_same, get_or-set_other, eqb-true}
 use Rattle.std.proofs.Math.ListN.{get_or-append}
 use Rattle.std.proofs.Math.Seq.{get_or-append_seam}
@@ -12,7 +12,6 @@ use Rattle.writer.proofs.PutLaws.{length_put}
 use Rattle.nametable.specs.Limits.{most_lines, most_name, slot, heads}
 use Rattle.nametable.specs.Hash.{bucket_of_value}
 use Rattle.nametable.specs.HashLaws.{bucket_small}
-use Rattle.nametable.specs.declared.Found.{Found}
 use Rattle.nametable.specs.Promise.{Memory, memory, Stands, head_of, next_of, number_of, Walk, ended, here, astray, onward, Finds, too_long, lost, walks, entered, linked}
 use Rattle.nametable.specs.One.{stands_one}
 use Rattle.nametable.specs.Houses.{House, house, line_at, name_at}
@@ -22,10 +21,10 @@ use Rattle.nametable.specs.Holds.{chain_at, Latest, Sized, Holds, Has, has, has_
 
 module _ {m : Memory} {hs : List House} (g : Holds m hs) (s : List ℕ) where
   -- the lines from link v on have other names, and the line that it leads to is of the chain of s
-  walk_has : {v : ℕ} {a : Found} → v ≤ length hs → (0 < v → chain_at hs (v - 1) ≡ bucket_of_value s) → ((j : ℕ) → v ≤ j → j < length hs → ¬ (name_at hs j ≡ s)) → Walk m s v a → Has hs s a
+  walk_has : {v : ℕ} {a : Option ℤ} → v ≤ length hs → (0 < v → chain_at hs (v - 1) ≡ bucket_of_value s) → ((j : ℕ) → v ≤ j → j < length hs → ¬ (name_at hs j ≡ s)) → Walk m s v a → Has hs s a
   walk_has h c n (ended l) = has_not (λ k i. n k (omega arith) i)
   walk_has {v} h c n (here l w) =
-      subst (λ (z : ℤ). Has hs s (Found.Number z)) (sym (g.numbers (v - 1) (omega arith)))
+      subst (λ (z : ℤ). Has hs s (Some z)) (sym (g.numbers (v - 1) (omega arith)))
       (has (v - 1) (omega arith) (stands_one (g.stands (v - 1) (omega arith)) w))
   walk_has {v} h c n (astray l o p) = absurd (omega (arith, (g.next (v - 1) (omega arith)).inside))
   walk_has {v} h c n (onward l o p w) =
@@ -44,7 +43,7 @@ module _ {m : Memory} {hs : List House} (g : Holds m hs) (s : List ℕ) where
           at_it : v - 1 ≤ j → j < v → j ≡ v - 1
           at_it b d = omega arith
 
-  pub finds_has : {a : Found} → Finds m s a → Has hs s a
+  pub finds_has : {a : Option ℤ} → Finds m s a → Has hs s a
   finds_has (too_long h) = has_not (λ k i e. absurd (never k e (g.short k i)))
     where
       never : (k : ℕ) → name_at hs k ≡ s → length (name_at hs k) ≤ most_name → ⊥

@@ -169,14 +169,8 @@ fn stands(name: &[u8], names: &Names, k: usize) -> bool
 
 // ---- finding and entering
 
-#[derive(Clone, Copy)]
-pub enum Found {
-    Number(i32),
-    Nowhere,
-}
-
 // From link to link. A link goes to an earlier line, so that the walk ends; where one does not, which no call here leaves behind, it ends there.
-fn walk(names: &Names, links: &Links, name: &[u8], from: usize) -> Found
+fn walk(names: &Names, links: &Links, name: &[u8], from: usize) -> Option<i32>
     requires { (length name.now ≤ most_name) × (from ≤ most_lines) }
     ensures { Walk (memory names.now links.now) name.now from result }
 {
@@ -184,28 +178,28 @@ fn walk(names: &Names, links: &Links, name: &[u8], from: usize) -> Found
     while 0 < at {
         let k = at - 1;
         if stands(name, names, k) {
-            return Found::Number(whole::lowered(links[HEADS + 2 * k + 1]));
+            return Some(whole::lowered(links[HEADS + 2 * k + 1]));
         }
         let next = place(links[HEADS + 2 * k]);
         if at <= next {
-            return Found::Nowhere;
+            return None;
         }
         at = next;
     }
-    Found::Nowhere
+    None
 }
 
 // The number of a name.
-pub fn find(names: &Names, links: &Links, name: &[u8]) -> Found
+pub fn find(names: &Names, links: &Links, name: &[u8]) -> Option<i32>
     ensures { Finds (memory names.now links.now) name.now result }
 {
     if NAME < name.len() {
-        return Found::Nowhere;
+        return None;
     }
     let chain = bucket_of(name);
     let from = place(links[chain]);
     if LINES < from {
-        return Found::Nowhere;
+        return None;
     }
     walk(names, links, name, from)
 }

@@ -1,6 +1,6 @@
 -- A name is found among rows as among those of its length alone, and what is found is the promise.
 -- Assumes nothing.
-use Rattle.std.specs.Prelude.{◌≡◌, refl, Bool, true, false, cond, ◌&&◌, ◌||◌, ◌⊎◌, ℕ, T, eqb, length}
+use Rattle.std.specs.Prelude.{◌≡◌, refl, Bool, true, false, cond, ◌&&◌, ◌||◌, ◌⊎◌, ℕ, T, eqb, length, Result, Ok}
 use Rattle.std.proofs.Common.{sym, ◌∙◌, ap, ap₂, subst, inl, inr, ⊎_elim, arith, ne_eqb}
 use mathlib.Core.List.Memᴰ
 use mathlib.Core.List.{List, [], ◌∷◌, Memᴰ}
@@ -9,14 +9,13 @@ use Rattle.std.proofs.Math.Facts.{and_yes}
 use Rattle.whole.specs.Tests.{true_or_false}
 use Rattle.calendar.specs.Rows.{refuses, passes}
 use Rattle.calendar.specs.declared.Calendar.{Calendar}
-use Rattle.calendar.specs.declared.Chosen.{Chosen}
-use Rattle.calendar.specs.declared.Chosen.TheVariants as Chosen'
 use Rattle.ncal.specs.declared.Found.{Found}
 use Rattle.ncal.specs.declared.Found.TheVariants as Found'
 use Rattle.ncal.specs.Every.{eq_list, eq_list_lem, list_eq}
 use Rattle.ncal.specs.Table.{NameRow, row, table}
 use Rattle.ncal.specs.Promise.{FoundAs, in_table, in_no_row, NamesCalendar, unknown_name_value, of_row}
 use Rattle.ncal.specs.Search.{or_row, or_rows, among, of_length}
+use Rattle.refusals.specs.declared.Refusal.{Refusal}
 
 pub nought : ◌≡◌ {A = ℕ} 0 1 → ⊥
 nought z = omega arith
@@ -112,8 +111,8 @@ module _ (s : List ℕ) where
       (same_or_other s r.name)
 
 -- the answer to what is found
-abbrev chosen_of : Found → Chosen
-chosen_of (Found'.Calendar c) = Chosen'.Calendar c
+abbrev chosen_of : Found → Result Calendar Refusal
+chosen_of (Found'.Calendar c) = Ok c
 chosen_of Found'.Nothing = unknown_name_value
 
 pub is_found : (s : List ℕ) (f : Found) → f ≡ among s table → FoundAs s f
@@ -125,7 +124,7 @@ found_named : {s : List ℕ} {f : Found} → FoundAs s f → NamesCalendar s (ch
 found_named (in_table {c} m) = passes (c, m) (of_row m)
 found_named (in_no_row n) = refuses n
 
-pub is_named : {s : List ℕ} {c : Calendar} → FoundAs s (Found'.Calendar c) → NamesCalendar s (Chosen'.Calendar c)
+pub is_named : {s : List ℕ} {c : Calendar} → FoundAs s (Found'.Calendar c) → NamesCalendar s (Ok c)
 is_named = found_named
 
 pub not_named : {s : List ℕ} → FoundAs s Found'.Nothing → NamesCalendar s unknown_name_value

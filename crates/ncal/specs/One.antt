@@ -1,12 +1,11 @@
 -- The names are distinct, and the promise allows one result.
 -- Assumes nothing.
-use Rattle.std.specs.Prelude.{◌≡◌, refl, Bool, List, [], ℕ, ◌<◌, T, length, get_or}
+use Rattle.std.specs.Prelude.{◌≡◌, refl, Bool, List, [], ℕ, ◌<◌, T, length, get_or, Ok}
 use Rattle.std.proofs.Common.{sym, ◌∙◌, ap}
 use Rattle.whole.specs.Text.{bytes}
 use Rattle.calendar.specs.RowLaws.{One, unless_one}
 use Rattle.calendar.specs.declared.Calendar.{Calendar}
 use Rattle.calendar.specs.declared.Calendar.TheVariants.{Julian}
-use Rattle.calendar.specs.declared.Chosen.TheVariants as Chosen'
 use Rattle.ncal.specs.Table.{NameRow, row, table}
 use Rattle.ncal.specs.Promise.{InTable, FoundAs, in_table, in_no_row, OfRow, of_row, NamesCalendar}
 use Rattle.ncal.specs.declared.Found.{Found}
@@ -38,7 +37,7 @@ one_row p q =
     ap (λ (r : NameRow). r.calendar) d ∙ ap (λ (l : ℕ). (row_at l).calendar) i ∙ ap (λ (r : NameRow). r.calendar) (sym e)
 
 of_row_one : (s : List ℕ) → One (OfRow s)
-of_row_one s a b (of_row p) (of_row q) = ap Chosen'.Calendar (one_row p q)
+of_row_one s a b (of_row p) (of_row q) = ap Ok (one_row p q)
 
 pub named_one : (s : List ℕ) → One (NamesCalendar s)
 named_one s = unless_one (λ k. of_row_one s)

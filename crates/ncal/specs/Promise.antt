@@ -1,15 +1,14 @@
 -- What is promised of a name: the calendar of its row, or that there is none, which is 19.
 -- Assumes nothing.
 use mathlib.Core.List.{List, Memᴰ}
-use Rattle.std.specs.Prelude.{ℕ, pos}
+use Rattle.std.specs.Prelude.{ℕ, pos, Result, Ok, Err}
 use Rattle.calendar.specs.Rows.{Unless}
 use Rattle.calendar.specs.Promise.{refusal}
 use Rattle.calendar.specs.declared.Calendar.{Calendar}
-use Rattle.calendar.specs.declared.Chosen.{Chosen}
-use Rattle.calendar.specs.declared.Chosen.TheVariants as Chosen'
 use Rattle.ncal.specs.declared.Found.{Found}
 use Rattle.ncal.specs.declared.Found.TheVariants as Found'
 use Rattle.ncal.specs.Table.{row, table}
+use Rattle.refusals.specs.declared.Refusal.{Refusal}
 
 -- the table has a row with this name and this calendar
 abbrev pub InTable : List ℕ → Calendar → Type 0
@@ -25,12 +24,12 @@ pub data FoundAs (s : List ℕ) : Found → Type 0 where
   in_no_row : ¬ Known s → FoundAs s Found'.Nothing
 
 -- the calendar of the row with the name
-pub data OfRow (s : List ℕ) : Chosen → Type 0 where
-  of_row : {c : Calendar} → InTable s c → OfRow s (Chosen'.Calendar c)
+pub data OfRow (s : List ℕ) : Result Calendar Refusal → Type 0 where
+  of_row : {c : Calendar} → InTable s c → OfRow s (Ok c)
 
-abbrev pub unknown_name_value : Chosen
-unknown_name_value = Chosen'.Refused (refusal 19 (pos 0))
+abbrev pub unknown_name_value : Result Calendar Refusal
+unknown_name_value = Err (refusal 19 (pos 0))
 
 -- named: 19, or the calendar
-abbrev pub NamesCalendar : List ℕ → Chosen → Type 0
+abbrev pub NamesCalendar : List ℕ → Result Calendar Refusal → Type 0
 NamesCalendar s = Unless (Known s) unknown_name_value (OfRow s)

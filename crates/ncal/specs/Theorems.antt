@@ -1,6 +1,6 @@
 -- A name of the table gets its calendar, and every calendar of the table is accepted.
 -- Assumes nothing.
-use Rattle.std.specs.Prelude.{◌≡◌, refl, Bool, true, ◌&&◌, List, ◌⊎◌, ℕ, T, ℤ, pos, ◌≤ℤ◌}
+use Rattle.std.specs.Prelude.{◌≡◌, refl, Bool, true, ◌&&◌, List, ◌⊎◌, ℕ, T, ℤ, pos, ◌≤ℤ◌, Result, Ok}
 use Rattle.std.proofs.Common.{sym, ap, subst, inl, inr}
 use Rattle.std.specs.Int.Signed.{le_z, le_z_yes}
 use Rattle.std.proofs.Math.Facts.{and_yes}
@@ -13,14 +13,13 @@ use Rattle.calendar.specs.Calendars.{Accepted}
 use Rattle.calendar.specs.Rows.{refuses, passes}
 use Rattle.calendar.specs.declared.Calendar.{Calendar}
 use Rattle.calendar.specs.declared.Calendar.TheVariants.{Julian, Gregorian, Reforming}
-use Rattle.calendar.specs.declared.Chosen.{Chosen}
-use Rattle.calendar.specs.declared.Chosen.TheVariants as Chosen'
 use Rattle.ncal.specs.Table.{NameRow, table}
 use Rattle.ncal.specs.Promise.{InTable, Known, FoundAs, in_table, in_no_row, of_row, NamesCalendar}
 use Rattle.ncal.specs.Search.{among}
 use Rattle.ncal.specs.declared.Found.{Found}
 use Rattle.ncal.specs.One.{row_at, at_row, row_of, named_one}
 use Rattle.ncal.specs.Laws.{nought, is_found}
+use Rattle.refusals.specs.declared.Refusal.{Refusal}
 
 -- it is decided whether a name is known
 pub known_or_not : (s : List ℕ) → Known s ⊎ ¬ Known s
@@ -31,8 +30,8 @@ known_or_not s = by (is_found s (among s table) refl)
     by (in_no_row n) = inr n
 
 -- a name of the table is answered with its calendar
-pub named_row : {s : List ℕ} {c : Calendar} {a : Chosen} → InTable s c → NamesCalendar s a → a ≡ Chosen'.Calendar c
-named_row {s} {c} {a} m p = named_one s a (Chosen'.Calendar c) p (passes (c, m) (of_row m))
+pub named_row : {s : List ℕ} {c : Calendar} {a : Result Calendar Refusal} → InTable s c → NamesCalendar s a → a ≡ Ok c
+named_row {s} {c} {a} m p = named_one s a (Ok c) p (passes (c, m) (of_row m))
 
 -- ---- Every calendar of the table is accepted
 in_range_lem : (r : ℤ) → pos 1_830_692 ≤ℤ r → r ≤ℤ pos 2_147_439_588 → AcceptedReformation r
@@ -61,6 +60,6 @@ table_accepted m =
     subst Accepted (ap (λ (r : NameRow). r.calendar) (sym e)) (range_accepted (row_at k).calendar (at_row row_in_range tt k h))
 
 -- and so is every calendar that a name is answered with
-pub named_accepted : {s : List ℕ} {a : Chosen} → NamesCalendar s a → {c : Calendar} → a ≡ Chosen'.Calendar c → Accepted c
+pub named_accepted : {s : List ℕ} {a : Result Calendar Refusal} → NamesCalendar s a → {c : Calendar} → a ≡ Ok c → Accepted c
 named_accepted (refuses n) e = let z : ◌≡◌ {A = ℕ} 0 1 = cc in absurd (nought z)
 named_accepted (passes k (of_row {c = b} m)) {c} e = let q : b ≡ c = cc in subst Accepted q (table_accepted m)

@@ -9,7 +9,8 @@ ghost use Rattle.ncal.specs.Promise.{FoundAs, NamesCalendar};
 ghost use Rattle.ncal.specs.Search.{or_row, among, of_length};
 ghost use Rattle.whole.specs.Whether.{Whether};
 
-use calendar::{Calendar, Chosen, refusal_of};
+use calendar::{Calendar, refusal_of};
+use refusals::Refusal;
 
 // ---- For each country the calendar that is reforming at its first Gregorian day, with that date and the last Julian one
 
@@ -118,12 +119,12 @@ pub const YUGOSLAVIA: Calendar = Calendar::Reforming(2_422_036);
 // ---- The names
 
 // The calendar of a name, in capitals.
-pub fn named(name: &[u8]) -> Chosen
+pub fn named(name: &[u8]) -> Result<Calendar, Refusal>
     ensures { NamesCalendar name.now result }
 {
     match look_up(name) {
-        Found::Calendar(c) => Chosen::Calendar(c),
-        Found::Nothing => Chosen::Refused(refusal_of(19, 0)),
+        Found::Calendar(c) => Ok(c),
+        Found::Nothing => Err(refusal_of(19, 0)),
     }
 }
 

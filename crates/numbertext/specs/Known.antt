@@ -1,6 +1,6 @@
 -- Numbers at the two ends of a field's range, about the definitions: at which digit each leaves it, or that it fits. M-104 has them.
 -- Assumes nothing.
-use Rattle.std.specs.Prelude.{ℕ, refl, ℤ, pos, negsuc}
+use Rattle.std.specs.Prelude.{ℕ, refl, ℤ, pos, negsuc, Ok, Err}
 use Prim.Native.String.{String}
 use Rattle.whole.specs.Text.{bytes}
 use Rattle.whole.specs.Promise.{signed_of}
@@ -9,22 +9,20 @@ use Rattle.digits.specs.Promise.{run_from}
 use Rattle.numbertext.specs.Promise.{NumberAt, SignedAt}
 use Rattle.numbertext.specs.Reading.{placed, read_number, signed_run_value, read_signed}
 use Rattle.numbertext.specs.Meaning.{number_meant, signed_meant}
-use Rattle.numbertext.specs.declared.Number.{Number}
-use Rattle.numbertext.specs.declared.SignedNumber.{SignedNumber}
 
 -- a text that begins with a signed number: it leaves 32 bits at the byte `place`, or it is y and goes up to `next`
 abbrev SignedLeaves : String → ℕ → ℕ → Type 0
-SignedLeaves text number place = SignedAt (bytes text) 0 (SignedNumber.Refused (refusal number place (pos 0)))
+SignedLeaves text number place = SignedAt (bytes text) 0 (Err (refusal number place (pos 0)))
 
 abbrev SignedFits : String → ℤ → ℕ → Type 0
-SignedFits text y next = SignedAt (bytes text) 0 (SignedNumber.Value y next)
+SignedFits text y next = SignedAt (bytes text) 0 (Ok (y, next))
 
 -- a text that begins with an unsigned number
 abbrev UnsignedLeaves : String → ℕ → Type 0
-UnsignedLeaves text place = NumberAt (bytes text) 0 (Number.Refused (refusal 11 place (pos 0)))
+UnsignedLeaves text place = NumberAt (bytes text) 0 (Err (refusal 11 place (pos 0)))
 
 abbrev UnsignedFits : String → ℕ → ℕ → Type 0
-UnsignedFits text n next = NumberAt (bytes text) 0 (Number.Value n next)
+UnsignedFits text n next = NumberAt (bytes text) 0 (Ok (n, next))
 
 pub record Known : Type 0 where
   pub greatest : SignedFits "2147483647" (pos 2_147_483_647) 10

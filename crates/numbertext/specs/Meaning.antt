@@ -1,7 +1,7 @@
 -- What `Reading` computes is what `Numerals` and `Promise` say, both ways: the computed answer is right (`sound`), and a right answer is the
 -- computed one (`complete`).
 -- Assumes nothing.
-use Rattle.std.specs.Prelude.{ℕ, ◌+◌, ◌≤◌, ◌<◌, ◌≡◌, refl, Bool, true, false, List, [], ◌∷◌, ◌++◌, length, drop, ℤ, pos, neg_ℤ, ltb, eqb}
+use Rattle.std.specs.Prelude.{ℕ, ◌+◌, ◌≤◌, ◌<◌, ◌≡◌, refl, Bool, true, false, List, [], ◌∷◌, ◌++◌, length, drop, ℤ, pos, neg_ℤ, ltb, eqb, Result, Ok, Err, ⊤}
 use Rattle.std.proofs.Common.{sym, ◌∙◌, ap, subst, append_assoc, arith, length-append, ltb-true, ltb-false, ne_eqb, eqb-true}
 use Rattle.std.proofs.lemmas.Bool.{eqb-false}
 use Rattle.refusals.specs.declared.Refusal.{Refusal}
@@ -10,15 +10,11 @@ use Rattle.refusals.specs.Promise.{refusal}
 use Rattle.digits.specs.Numerals.{plus, dash, Digits, Numeral, Stops}
 use Rattle.digits.specs.Promise.{pick, run_of}
 use Rattle.digits.specs.Runs.{pick_no, RunView, run_view, run_none, run_is, run_leaves}
-use Rattle.digits.specs.declared.Run.{Run}
 use Rattle.numbertext.specs.Numerals.{Signed, TooFar, NoNumber, NoSigned, NoDash}
 use Rattle.numbertext.specs.Promise.{NumberFrom, SignedFrom, DashFrom, EndFrom, At, NumberAt, SignedAt, DashAt, EndAt}
 use Rattle.numbertext.specs.Reading.{placed, no_number_value, to_number, read_number, the_number, limit_of, way_out_value, to_signed, signed_run_value, read_signed, the_signed, read_dash, the_dash, read_end, the_end}
 use Rattle.numbertext.specs.Places.{placed_past, placed_in}
-use Rattle.numbertext.specs.declared.Number.{Number}
-use Rattle.numbertext.specs.declared.SignedNumber.{SignedNumber}
-use Rattle.numbertext.specs.declared.Dash.{Dash}
-use Rattle.numbertext.specs.declared.End.{End}
+use Rattle.digits.specs.declared.NoRun.{NoRun}
 
 -- ---- an unsigned number
 
@@ -30,19 +26,19 @@ pub number_sound : (at : ℕ) (u : List ℕ) → NumberFrom at u (read_number at
 unfolding read_number
 number_sound at u = by (run_view 4294967295 at u)
   where
-    by : {r : Run} → RunView 4294967295 at u r → NumberFrom at u (to_number at u r)
+    by : {r : Result (ℕ × ℕ) NoRun} → RunView 4294967295 at u r → NumberFrom at u (to_number at u r)
     by (RunView.empty st) = NumberFrom.no_number (none_number at st)
     by (RunView.value {p} {n = n} e w st h) =
-        subst (λ (x : List ℕ). NumberFrom at x (Number.Value n (at + length p))) (sym e) (NumberFrom.number (record { numeral = w; fits = omega arith }) st)
+        subst (λ (x : List ℕ). NumberFrom at x (Ok (n, at + length p))) (sym e) (NumberFrom.number (record { numeral = w; fits = omega arith }) st)
     by (RunView.over {k = k} e ds st l) =
         NumberFrom.no_number (NoNumber.above (subst (λ (x : List ℕ). TooFar 4294967295 11 at x (refusal 11 (at + k) (pos 0))) (sym e) (TooFar.too_far ds st l)))
 
-pub number_complete : {at : ℕ} {u : List ℕ} {r : Number} → NumberFrom at u r → read_number at u ≡ r
+pub number_complete : {at : ℕ} {u : List ℕ} {r : Result (ℕ × ℕ) Refusal} → NumberFrom at u r → read_number at u ≡ r
 unfolding read_number
 number_complete {at} (NumberFrom.number {p} {u} w st) = ap (to_number at (p ++ u)) (run_is 4294967295 at w.numeral st (omega (arith, w.fits)))
 number_complete {at} (NumberFrom.no_number h) = by h
   where
-    by : {u : List ℕ} {f : Refusal} → NoNumber at u f → to_number at u (run_of 4294967295 at u) ≡ Number.Refused f
+    by : {u : List ℕ} {f : Refusal} → NoNumber at u f → to_number at u (run_of 4294967295 at u) ≡ Err f
     by NoNumber.ended = ap (to_number at []) (run_none 4294967295 at Stops.ended)
     by (NoNumber.other {b} {u} h) = ap (to_number at (b ∷ u)) (run_none 4294967295 at (Stops.other {b = b} {u = u} h))
     by (NoNumber.above (TooFar.too_far {p} {u} ds st l)) = ap (to_number at (p ++ u)) (run_leaves 4294967295 at ds st l)
@@ -54,12 +50,12 @@ module _ (neg : Bool) (at : ℕ) (c : List ℕ) (first : ℕ) (here : first ≡ 
     (small : (p : List ℕ) (n : ℕ) → Numeral p n → n ≤ limit_of neg → Signed (c ++ p) (signed_of neg n))
     (large : (u : List ℕ) (f : Refusal) → TooFar (limit_of neg) (way_out_value neg) first u f → NoSigned at (c ++ u) f)
     (u : List ℕ) (bare : Stops u → NoSigned at (c ++ u) none) where
-  signed_by : {r : Run} → RunView (limit_of neg) first u r → SignedFrom at (c ++ u) (to_signed neg none r)
+  signed_by : {r : Result (ℕ × ℕ) NoRun} → RunView (limit_of neg) first u r → SignedFrom at (c ++ u) (to_signed neg none r)
   signed_by (RunView.empty st) = SignedFrom.no_number (bare st)
   signed_by (RunView.value {p} {v} {n} e w st h) =
-      subst (λ (x : List ℕ). SignedFrom at (c ++ x) (SignedNumber.Value (signed_of neg n) (first + length p))) (sym e)
-      (subst (λ (x : List ℕ). SignedFrom at x (SignedNumber.Value (signed_of neg n) (first + length p))) (append_assoc c p v)
-      (subst (λ (k : ℕ). SignedFrom at ((c ++ p) ++ v) (SignedNumber.Value (signed_of neg n) k)) (omega (arith, length-append c p))
+      subst (λ (x : List ℕ). SignedFrom at (c ++ x) (Ok (signed_of neg n, first + length p))) (sym e)
+      (subst (λ (x : List ℕ). SignedFrom at x (Ok (signed_of neg n, first + length p))) (append_assoc c p v)
+      (subst (λ (k : ℕ). SignedFrom at ((c ++ p) ++ v) (Ok (signed_of neg n, k))) (omega (arith, length-append c p))
       (SignedFrom.number (small p n w h) st)))
   signed_by (RunView.over {k = k} e ds st l) =
       SignedFrom.no_number
@@ -91,13 +87,13 @@ unfolding read_signed
 signed_sound at [] = SignedFrom.no_number NoSigned.ended
 signed_sound at (b ∷ u) = go (eqb b dash) refl
   where
-    first : SignedNumber
+    first : Result (ℤ × ℕ) Refusal
     first = signed_run_value true (at + 1) (refusal 10 at (pos 0)) u
 
-    second : SignedNumber
+    second : Result (ℤ × ℕ) Refusal
     second = signed_run_value false (at + 1) (refusal 10 at (pos 0)) u
 
-    third : SignedNumber
+    third : Result (ℤ × ℕ) Refusal
     third = signed_run_value false at (refusal 9 at (pos b)) (b ∷ u)
 
     goes : (t : Bool) → eqb b plus ≡ t → (b ≡ dash → ⊥) → SignedFrom at (b ∷ u) (pick t second third)
@@ -122,23 +118,23 @@ unfolding read_signed
 after_none at b u k l = pick_no _ _ (ne_eqb b dash l) ∙ pick_no _ _ (ne_eqb b plus k)
 
 -- digits begin with no sign, whatever the refusal of a text without one would be
-after_digits : (at : ℕ) (u : List ℕ) {p : List ℕ} {r : SignedNumber} → Digits p → 0 < length p → ((none : Refusal) → signed_run_value false at none (p ++ u) ≡ r) → read_signed at (p ++ u) ≡ r
+after_digits : (at : ℕ) (u : List ℕ) {p : List ℕ} {r : Result (ℤ × ℕ) Refusal} → Digits p → 0 < length p → ((none : Refusal) → signed_run_value false at none (p ++ u) ≡ r) → read_signed at (p ++ u) ≡ r
 after_digits at u Digits.none h e = absurd (omega arith)
 after_digits at u (Digits.more {b} {s} d ds) h e = after_none at b (s ++ u) (λ x. omega (arith, d.low)) (λ x. omega (arith, d.low)) ∙ e (refusal 9 at (pos b))
 
-pub signed_complete : {at : ℕ} {u : List ℕ} {r : SignedNumber} → SignedFrom at u r → read_signed at u ≡ r
+pub signed_complete : {at : ℕ} {u : List ℕ} {r : Result (ℤ × ℕ) Refusal} → SignedFrom at u r → read_signed at u ≡ r
 unfolding signed_of read_signed signed_run_value
 signed_complete {at} (SignedFrom.number w st) = by w st
   where
-    by : {p : List ℕ} {y : ℤ} → Signed p y → {u : List ℕ} → Stops u → read_signed at (p ++ u) ≡ SignedNumber.Value y (at + length p)
+    by : {p : List ℕ} {y : ℤ} → Signed p y → {u : List ℕ} → Stops u → read_signed at (p ++ u) ≡ Ok (y, at + length p)
     by (Signed.plain w h) {u} st = after_digits at u w.digits w.some (λ none. ap (to_signed false none) (run_is (limit_of false) at w st (omega arith)))
     by (Signed.with_plus {p} {n} w h) {u} st =
-        after_plus at (p ++ u) ∙ ap (to_signed false (refusal 10 at (pos 0))) (run_is (limit_of false) (at + 1) w st (omega arith)) ∙ ap (SignedNumber.Value (pos n)) (omega arith)
+        after_plus at (p ++ u) ∙ ap (to_signed false (refusal 10 at (pos 0))) (run_is (limit_of false) (at + 1) w st (omega arith)) ∙ ap ((λ (k : ℕ). Ok ((pos n), k))) (omega arith)
     by (Signed.with_dash {p} {n} w h) {u} st =
-        after_dash at (p ++ u) ∙ ap (to_signed true (refusal 10 at (pos 0))) (run_is (limit_of true) (at + 1) w st (omega arith)) ∙ ap (SignedNumber.Value (neg_ℤ (pos n))) (omega arith)
+        after_dash at (p ++ u) ∙ ap (to_signed true (refusal 10 at (pos 0))) (run_is (limit_of true) (at + 1) w st (omega arith)) ∙ ap ((λ (k : ℕ). Ok ((neg_ℤ (pos n)), k))) (omega arith)
 signed_complete {at} (SignedFrom.no_number h) = by h
   where
-    by : {u : List ℕ} {f : Refusal} → NoSigned at u f → read_signed at u ≡ SignedNumber.Refused f
+    by : {u : List ℕ} {f : Refusal} → NoSigned at u f → read_signed at u ≡ Err f
     by NoSigned.ended = refl
     by (NoSigned.other {b} {u} h k l) = after_none at b u k l ∙ ap (to_signed false (refusal 9 at (pos b))) (run_none (limit_of false) at (Stops.other {b = b} {u = u} h))
     by (NoSigned.bare_plus {u} st) = after_plus at u ∙ ap (to_signed false (refusal 10 at (pos 0))) (run_none (limit_of false) (at + 1) st)
@@ -157,11 +153,11 @@ unfolding read_dash
 dash_sound at [] = DashFrom.no_dash NoDash.ended
 dash_sound at (b ∷ u) = go (eqb b dash) refl
   where
-    go : (t : Bool) → eqb b dash ≡ t → DashFrom at (b ∷ u) (pick t (Dash.Next (at + 1)) (Dash.Refused (refusal 12 at (pos b))))
-    go true e = subst (λ (x : ℕ). DashFrom at (x ∷ u) (Dash.Next (at + 1))) (sym (eqb-true b dash e)) DashFrom.a_dash
+    go : (t : Bool) → eqb b dash ≡ t → DashFrom at (b ∷ u) (pick t (Ok (at + 1)) (Err (refusal 12 at (pos b))))
+    go true e = subst (λ (x : ℕ). DashFrom at (x ∷ u) (Ok (at + 1))) (sym (eqb-true b dash e)) DashFrom.a_dash
     go false e = DashFrom.no_dash (NoDash.other (eqb-false b dash e))
 
-pub dash_complete : {at : ℕ} {u : List ℕ} {r : Dash} → DashFrom at u r → read_dash at u ≡ r
+pub dash_complete : {at : ℕ} {u : List ℕ} {r : Result ℕ Refusal} → DashFrom at u r → read_dash at u ≡ r
 unfolding read_dash
 dash_complete DashFrom.a_dash = refl
 dash_complete (DashFrom.no_dash NoDash.ended) = refl
@@ -172,7 +168,7 @@ unfolding read_end
 end_sound at [] = EndFrom.reached
 end_sound at (b ∷ u) = EndFrom.left_over
 
-pub end_complete : {at : ℕ} {u : List ℕ} {r : End} → EndFrom at u r → read_end at u ≡ r
+pub end_complete : {at : ℕ} {u : List ℕ} {r : Result ⊤ Refusal} → EndFrom at u r → read_end at u ≡ r
 unfolding read_end
 end_complete EndFrom.reached = refl
 end_complete EndFrom.left_over = refl
@@ -192,26 +188,26 @@ module _ {A : Type 0} (refuse : Refusal → A) (From : ℕ → List ℕ → A �
   at_complete complete {s} {at} (At.within h w) = placed_in refuse f s at h ∙ complete at (drop at s) _ w
 
 module _ {s : List ℕ} {at : ℕ} where
-  pub number_meant : {r : Number} → r ≡ the_number s at → NumberAt s at r
-  number_meant = at_sound Number.Refused NumberFrom read_number number_sound s at
+  pub number_meant : {r : Result (ℕ × ℕ) Refusal} → r ≡ the_number s at → NumberAt s at r
+  number_meant = at_sound Err NumberFrom read_number number_sound s at
 
-  pub number_is : {r : Number} → NumberAt s at r → r ≡ the_number s at
-  number_is h = sym (at_complete Number.Refused NumberFrom read_number (λ at u r w. number_complete w) h)
+  pub number_is : {r : Result (ℕ × ℕ) Refusal} → NumberAt s at r → r ≡ the_number s at
+  number_is h = sym (at_complete Err NumberFrom read_number (λ at u r w. number_complete w) h)
 
-  pub signed_meant : {r : SignedNumber} → r ≡ the_signed s at → SignedAt s at r
-  signed_meant = at_sound SignedNumber.Refused SignedFrom read_signed signed_sound s at
+  pub signed_meant : {r : Result (ℤ × ℕ) Refusal} → r ≡ the_signed s at → SignedAt s at r
+  signed_meant = at_sound Err SignedFrom read_signed signed_sound s at
 
-  pub signed_is : {r : SignedNumber} → SignedAt s at r → r ≡ the_signed s at
-  signed_is h = sym (at_complete SignedNumber.Refused SignedFrom read_signed (λ at u r w. signed_complete w) h)
+  pub signed_is : {r : Result (ℤ × ℕ) Refusal} → SignedAt s at r → r ≡ the_signed s at
+  signed_is h = sym (at_complete Err SignedFrom read_signed (λ at u r w. signed_complete w) h)
 
-  pub dash_meant : {r : Dash} → r ≡ the_dash s at → DashAt s at r
-  dash_meant = at_sound Dash.Refused DashFrom read_dash dash_sound s at
+  pub dash_meant : {r : Result ℕ Refusal} → r ≡ the_dash s at → DashAt s at r
+  dash_meant = at_sound Err DashFrom read_dash dash_sound s at
 
-  pub dash_is : {r : Dash} → DashAt s at r → r ≡ the_dash s at
-  dash_is h = sym (at_complete Dash.Refused DashFrom read_dash (λ at u r w. dash_complete w) h)
+  pub dash_is : {r : Result ℕ Refusal} → DashAt s at r → r ≡ the_dash s at
+  dash_is h = sym (at_complete Err DashFrom read_dash (λ at u r w. dash_complete w) h)
 
-  pub end_meant : {r : End} → r ≡ the_end s at → EndAt s at r
-  end_meant = at_sound End.Refused EndFrom read_end end_sound s at
+  pub end_meant : {r : Result ⊤ Refusal} → r ≡ the_end s at → EndAt s at r
+  end_meant = at_sound Err EndFrom read_end end_sound s at
 
-  pub end_is : {r : End} → EndAt s at r → r ≡ the_end s at
-  end_is h = sym (at_complete End.Refused EndFrom read_end (λ at u r w. end_complete w) h)
+  pub end_is : {r : Result ⊤ Refusal} → EndAt s at r → r ≡ the_end s at
+  end_is h = sym (at_complete Err EndFrom read_end (λ at u r w. end_complete w) h)

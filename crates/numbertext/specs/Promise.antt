@@ -1,50 +1,46 @@
 -- What the public functions promise of a read at a place of the bytes.
 -- Assumes nothing.
-use Rattle.std.specs.Prelude.{ℕ, ◌+◌, ◌≤◌, ◌<◌, List, [], ◌∷◌, ◌++◌, length, drop, ℤ, pos}
+use Rattle.std.specs.Prelude.{ℕ, ◌+◌, ◌≤◌, ◌<◌, List, [], ◌∷◌, ◌++◌, length, drop, ℤ, pos, Result, Ok, Err, ⊤}
 use Rattle.refusals.specs.declared.Refusal.{Refusal}
 use Rattle.refusals.specs.Promise.{refusal}
 use Rattle.digits.specs.Numerals.{dash, Stops}
 use Rattle.numbertext.specs.Numerals.{Unsigned, Signed, NoNumber, NoSigned, NoDash}
-use Rattle.numbertext.specs.declared.Number.{Number}
-use Rattle.numbertext.specs.declared.SignedNumber.{SignedNumber}
-use Rattle.numbertext.specs.declared.Dash.{Dash}
-use Rattle.numbertext.specs.declared.End.{End}
 
 -- ---- what the bytes from a place on say
 
 -- an unsigned number, up to where its digits end
-pub data NumberFrom (at : ℕ) : List ℕ → Number → Type 0 where
-  number : {p u : List ℕ} {n : ℕ} → Unsigned p n → Stops u → NumberFrom at (p ++ u) (Number.Value n (at + length p))
-  no_number : {u : List ℕ} {f : Refusal} → NoNumber at u f → NumberFrom at u (Number.Refused f)
+pub data NumberFrom (at : ℕ) : List ℕ → Result (ℕ × ℕ) Refusal → Type 0 where
+  number : {p u : List ℕ} {n : ℕ} → Unsigned p n → Stops u → NumberFrom at (p ++ u) (Ok (n, at + length p))
+  no_number : {u : List ℕ} {f : Refusal} → NoNumber at u f → NumberFrom at u (Err f)
 
 -- a signed number, up to where its digits end
-pub data SignedFrom (at : ℕ) : List ℕ → SignedNumber → Type 0 where
-  number : {p u : List ℕ} {y : ℤ} → Signed p y → Stops u → SignedFrom at (p ++ u) (SignedNumber.Value y (at + length p))
-  no_number : {u : List ℕ} {f : Refusal} → NoSigned at u f → SignedFrom at u (SignedNumber.Refused f)
+pub data SignedFrom (at : ℕ) : List ℕ → Result (ℤ × ℕ) Refusal → Type 0 where
+  number : {p u : List ℕ} {y : ℤ} → Signed p y → Stops u → SignedFrom at (p ++ u) (Ok (y, at + length p))
+  no_number : {u : List ℕ} {f : Refusal} → NoSigned at u f → SignedFrom at u (Err f)
 
 -- a `-`
-pub data DashFrom (at : ℕ) : List ℕ → Dash → Type 0 where
-  a_dash : {u : List ℕ} → DashFrom at (dash ∷ u) (Dash.Next (at + 1))
-  no_dash : {u : List ℕ} {f : Refusal} → NoDash at u f → DashFrom at u (Dash.Refused f)
+pub data DashFrom (at : ℕ) : List ℕ → Result ℕ Refusal → Type 0 where
+  a_dash : {u : List ℕ} → DashFrom at (dash ∷ u) (Ok (at + 1))
+  no_dash : {u : List ℕ} {f : Refusal} → NoDash at u f → DashFrom at u (Err f)
 
 -- the end; bytes left over are refused 14
-pub data EndFrom (at : ℕ) : List ℕ → End → Type 0 where
-  reached : EndFrom at [] End.Reached
-  left_over : {b : ℕ} {u : List ℕ} → EndFrom at (b ∷ u) (End.Refused (refusal 14 at (pos b)))
+pub data EndFrom (at : ℕ) : List ℕ → Result ⊤ Refusal → Type 0 where
+  reached : EndFrom at [] (Ok tt)
+  left_over : {b : ℕ} {u : List ℕ} → EndFrom at (b ∷ u) (Err (refusal 14 at (pos b)))
 
 -- ---- a read at a place of the bytes s: a place past them is refused 16, and from any other the bytes decide
 pub data At {A : Type 0} (refuse : Refusal → A) (From : ℕ → List ℕ → A → Type 0) (s : List ℕ) (at : ℕ) : A → Type 0 where
   past : length s < at → At refuse From s at (refuse (refusal 16 0 (pos 0)))
   within : {r : A} → at ≤ length s → From at (drop at s) r → At refuse From s at r
 
-abbrev pub NumberAt : List ℕ → ℕ → Number → Type 0
-NumberAt = At Number.Refused NumberFrom
+abbrev pub NumberAt : List ℕ → ℕ → Result (ℕ × ℕ) Refusal → Type 0
+NumberAt = At Err NumberFrom
 
-abbrev pub SignedAt : List ℕ → ℕ → SignedNumber → Type 0
-SignedAt = At SignedNumber.Refused SignedFrom
+abbrev pub SignedAt : List ℕ → ℕ → Result (ℤ × ℕ) Refusal → Type 0
+SignedAt = At Err SignedFrom
 
-abbrev pub DashAt : List ℕ → ℕ → Dash → Type 0
-DashAt = At Dash.Refused DashFrom
+abbrev pub DashAt : List ℕ → ℕ → Result ℕ Refusal → Type 0
+DashAt = At Err DashFrom
 
-abbrev pub EndAt : List ℕ → ℕ → End → Type 0
-EndAt = At End.Refused EndFrom
+abbrev pub EndAt : List ℕ → ℕ → Result ⊤ Refusal → Type 0
+EndAt = At Err EndFrom

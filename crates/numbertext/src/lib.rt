@@ -8,35 +8,9 @@ ghost use Rattle.std.specs.Prelude.{◌≡◌, drop};
 ghost use Rattle.numbertext.specs.Promise.{NumberAt, SignedAt, DashAt, EndAt};
 ghost use Rattle.numbertext.specs.Reading.{ended_at_value, signed_run_value, limit_of, way_out_value};
 
-use digits::Run;
 use refusals::{Refusal, byte_refusal, refusal_at};
-use whole::Narrowed;
-
-// What a read at a place answers: what stands there and the place after it, or why it is refused.
-#[derive(Clone, Copy)]
-pub enum Number {
-    Value(u32, usize),
-    Refused(Refusal),
-}
-
-#[derive(Clone, Copy)]
-pub enum SignedNumber {
-    Value(i32, usize),
-    Refused(Refusal),
-}
-
-#[derive(Clone, Copy)]
-pub enum Dash {
-    Next(usize),
-    Refused(Refusal),
-}
-
-// Whether the bytes end at a place.
-#[derive(Clone, Copy)]
-pub enum End {
-    Reached,
-    Refused(Refusal),
-}
+use digits::NoRun;
+use whole::Outside;
 
 // ---- what stands at a place
 
@@ -51,17 +25,17 @@ fn ended_at(s: &[u8], at: usize, number: u32) -> Refusal
 }
 
 // An unsigned number of 32 bits.
-pub fn number_at(s: &[u8], at: usize) -> Number
+pub fn number_at(s: &[u8], at: usize) -> Result<(u32, usize), Refusal>
     ensures { NumberAt s.now at result }
 {
     match digits::run_at(s, at, 4_294_967_295) {
-        Run::Value(n, next) => Number::Value(n as u32, next),
-        Run::Over(i) => Number::Refused(refusal_at(11, i, 0)),
-        Run::Empty => {
+        Ok((n, next)) => Ok((n as u32, next)),
+        Err(NoRun::Over(i)) => Err(refusal_at(11, i, 0)),
+        Err(NoRun::Empty) => {
             if at < s.len() {
-                Number::Refused(byte_refusal(9, at, s[at]))
+                Err(byte_refusal(9, at, s[at]))
             } else {
-                Number::Refused(ended_at(s, at, 8))
+                Err(ended_at(s, at, 8))
             }
         }
     }
@@ -86,22 +60,22 @@ fn way_out(negative: bool) -> u32
 }
 
 // The digits of a signed number stand at `first`; `none` is the refusal where there is no digit. A magnitude that the run tells always fits.
-fn signed_run(s: &[u8], negative: bool, first: usize, none: Refusal) -> SignedNumber
+fn signed_run(s: &[u8], negative: bool, first: usize, none: Refusal) -> Result<(i32, usize), Refusal>
     ensures { result ≡ signed_run_value negative first none (drop first s.now) }
 {
     match digits::run_at(s, first, limit(negative)) {
-        Run::Value(n, next) => match whole::signed(negative, n) {
-            Narrowed::Fits(y) => SignedNumber::Value(y, next),
-            Narrowed::Above => SignedNumber::Refused(none),
-            Narrowed::Below => SignedNumber::Refused(none),
+        Ok((n, next)) => match whole::signed(negative, n) {
+            Ok(y) => Ok((y, next)),
+            Err(Outside::Above) => Err(none),
+            Err(Outside::Below) => Err(none),
         },
-        Run::Over(i) => SignedNumber::Refused(refusal_at(way_out(negative), i, 0)),
-        Run::Empty => SignedNumber::Refused(none),
+        Err(NoRun::Over(i)) => Err(refusal_at(way_out(negative), i, 0)),
+        Err(NoRun::Empty) => Err(none),
     }
 }
 
 // A number of signed 32 bits, with a sign before it or none.
-pub fn signed_at(s: &[u8], at: usize) -> SignedNumber
+pub fn signed_at(s: &[u8], at: usize) -> Result<(i32, usize), Refusal>
     ensures { SignedAt s.now at result }
 {
     if at < s.len() {
@@ -114,30 +88,30 @@ pub fn signed_at(s: &[u8], at: usize) -> SignedNumber
         }
         return signed_run(s, false, at, byte_refusal(9, at, b));
     }
-    SignedNumber::Refused(ended_at(s, at, 8))
+    Err(ended_at(s, at, 8))
 }
 
-pub fn dash_at(s: &[u8], at: usize) -> Dash
+pub fn dash_at(s: &[u8], at: usize) -> Result<usize, Refusal>
     ensures { DashAt s.now at result }
 {
     if at < s.len() {
         let b = s[at];
         if b == b'-' {
-            return Dash::Next(at + 1);
+            return Ok(at + 1);
         }
-        return Dash::Refused(byte_refusal(12, at, b));
+        return Err(byte_refusal(12, at, b));
     }
-    Dash::Refused(ended_at(s, at, 13))
+    Err(ended_at(s, at, 13))
 }
 
-pub fn end_at(s: &[u8], at: usize) -> End
+pub fn end_at(s: &[u8], at: usize) -> Result<(), Refusal>
     ensures { EndAt s.now at result }
 {
     if s.len() < at {
-        return End::Refused(refusal_at(16, 0, 0));
+        return Err(refusal_at(16, 0, 0));
     }
     if s.len() <= at {
-        return End::Reached;
+        return Ok(());
     }
-    End::Refused(byte_refusal(14, at, s[at]))
+    Err(byte_refusal(14, at, s[at]))
 }

@@ -1,14 +1,14 @@
 // Queries whose text is put into the output, which is then lent to the call, so that the output shows what the call leaves of it.
 use crate::reply::Reply;
 use crate::{put, query, reply};
-use calendar::{Date, Dated};
+use calendar::Date;
 use query::Head;
-use writer::Written;
+use refusals::Refusal;
 
-fn written(reply: Reply, answer: Written) -> Reply {
+fn written(reply: Reply, answer: Result<usize, Refusal>) -> Reply {
     match answer {
-        Written::Done(n) => reply::place(reply, n),
-        Written::Refused(why) => reply::refusal(reply, why),
+        Ok(n) => reply::place(reply, n),
+        Err(why) => reply::refusal(reply, why),
     }
 }
 
@@ -43,9 +43,9 @@ fn lend(out: &mut [u8], at: usize, size: usize, what: u8, date: Date) -> Reply {
     fill(what, date, &mut out[at..end])
 }
 
-fn date_of(line: &[u8], at: usize) -> Dated {
+fn date_of(line: &[u8], at: usize) -> Result<Date, Refusal> {
     match query::calendar_at(line, at) {
-        Head::Refused(why) => Dated::Refused(why),
+        Head::Refused(why) => Err(why),
         Head::Calendar(calendar, next) => {
             let asked = query::date_at(calendar, line, next);
             asked.answer
@@ -53,10 +53,10 @@ fn date_of(line: &[u8], at: usize) -> Dated {
     }
 }
 
-fn lend_for(out: &mut [u8], at: usize, size: u32, what: u8, answer: Dated) -> Reply {
+fn lend_for(out: &mut [u8], at: usize, size: u32, what: u8, answer: Result<Date, Refusal>) -> Reply {
     match answer {
-        Dated::Refused(why) => reply::refused(why),
-        Dated::Date(date) => lend(out, at, size as usize, what, date),
+        Err(why) => reply::refused(why),
+        Ok(date) => lend(out, at, size as usize, what, date),
     }
 }
 

@@ -2,8 +2,9 @@
 // (h * 1000003 + x + 2^33) mod 2147483647. A refused date counts as x = 1 - 2^33, or 2 - 2^33 where its number is outside 32 bits.
 use crate::reply::Reply;
 use crate::{reply, walk};
-use calendar::{Calendar, Counted, Date, Dated};
-use walker::{Walked, Walker};
+use calendar::{Calendar, Date};
+use walker::Walker;
+use refusals::Refusal;
 
 // ---- Values
 
@@ -20,10 +21,10 @@ fn with_whole(h: u64, x: i32) -> u64 {
     mixed(h, whole::raised(x) as u64 + 6_442_450_944)
 }
 
-fn with_number(h: u64, answer: Counted) -> u64 {
+fn with_number(h: u64, answer: Result<u32, Refusal>) -> u64 {
     match answer {
-        Counted::Number(n) => with_count(h, n),
-        Counted::Refused(_) => mixed(h, 1),
+        Ok(n) => with_count(h, n),
+        Err(_) => mixed(h, 1),
     }
 }
 
@@ -34,10 +35,10 @@ fn with_refusal(h: u64, number: u32) -> u64 {
     mixed(h, 1)
 }
 
-fn with_day(h: u64, answer: Dated) -> u64 {
+fn with_day(h: u64, answer: Result<Date, Refusal>) -> u64 {
     match answer {
-        Dated::Date(date) => with_whole(h, date.jdn),
-        Dated::Refused(why) => with_refusal(h, why.number),
+        Ok(date) => with_whole(h, date.jdn),
+        Err(why) => with_refusal(h, why.number),
     }
 }
 
@@ -67,8 +68,8 @@ fn one_day(s: DaySum, calendar: Calendar, step: u32) -> DaySum {
         return s;
     }
     match calendar.at_jdn(whole::lowered(s.next as u32)) {
-        Dated::Refused(_) => s,
-        Dated::Date(date) => DaySum {
+        Err(_) => s,
+        Ok(date) => DaySum {
             hash: with_date(s.hash, date),
             given: std::num::wrapping_add_u32(s.given, 1),
             next: s.next + step as u64,
@@ -133,8 +134,8 @@ pub fn year(calendar: Calendar, year: i32) -> u64 {
 
 fn one_place(h: u64, calendar: Calendar, year: i32, ordinal: u32) -> u64 {
     match calendar.at_ordinal_date(year, ordinal) {
-        Dated::Refused(why) => with_refusal(h, why.number),
-        Dated::Date(date) => {
+        Err(why) => with_refusal(h, why.number),
+        Ok(date) => {
             let a = with_count(h, date.month);
             let b = with_count(a, date.day);
             let c = with_count(b, date.day_ordinal);
@@ -170,13 +171,13 @@ fn one_step(t: Walking) -> Walking {
     let last = t.last;
     let answer = m.answer;
     match answer {
-        Dated::Refused(_) => Walking {
+        Err(_) => Walking {
             walker: after,
             last: last,
             given: t.given,
             hash: t.hash,
         },
-        Dated::Date(date) => Walking {
+        Ok(date) => Walking {
             walker: after,
             last: date,
             given: std::num::wrapping_add_u32(t.given, 1),
@@ -224,7 +225,7 @@ fn told(w: Walker, count: u32, by_days: bool) -> Reply {
 
 pub fn walk(date: Date, count: u32, way: u32, by_days: bool) -> Reply {
     match walk::walker_of(way, date) {
-        Walked::Refused(why) => reply::refused(why),
-        Walked::Walker(w) => told(w, count, by_days),
+        Err(why) => reply::refused(why),
+        Ok(w) => told(w, count, by_days),
     }
 }

@@ -10,27 +10,26 @@ mod reply;
 mod text;
 mod walk;
 
-use calendar::{Calendar, Chosen, Date, Dated, ReformDate, ReformDay};
+use calendar::{Calendar, Date};
 use query::{Head, Numbers};
 use reply::Reply;
-use unixtime::{DayTime, Timed};
-use writer::Written;
+use refusals::Refusal;
 
 // ---- Queries about a calendar
 
-fn ref_day(r: Reply, answer: ReformDay) -> Reply {
+fn ref_day(r: Reply, answer: Result<Option<i32>, Refusal>) -> Reply {
     match answer {
-        ReformDay::Day(day) => reply::number(r, whole::widened(day)),
-        ReformDay::Never => reply::letter(r, b'-'),
-        ReformDay::Refused(why) => reply::refusal(r, why),
+        Ok(Some(day)) => reply::number(r, whole::widened(day)),
+        Ok(None) => reply::letter(r, b'-'),
+        Err(why) => reply::refusal(r, why),
     }
 }
 
-fn ref_date(r: Reply, answer: ReformDate) -> Reply {
+fn ref_date(r: Reply, answer: Result<Option<Date>, Refusal>) -> Reply {
     match answer {
-        ReformDate::Date(date) => reply::date(r, date),
-        ReformDate::Never => reply::letter(r, b'-'),
-        ReformDate::Refused(why) => reply::refusal(r, why),
+        Ok(Some(date)) => reply::date(r, date),
+        Ok(None) => reply::letter(r, b'-'),
+        Err(why) => reply::refusal(r, why),
     }
 }
 
@@ -42,10 +41,10 @@ fn reformation(calendar: Calendar) -> Reply {
     ref_date(d, calendar.first_gregorian_date())
 }
 
-fn name(answer: Chosen) -> Reply {
+fn name(answer: Result<Calendar, Refusal>) -> Reply {
     match answer {
-        Chosen::Refused(why) => reply::refused(why),
-        Chosen::Calendar(calendar) => reply::calendar(reply::none(), calendar),
+        Err(why) => reply::refused(why),
+        Ok(calendar) => reply::calendar(reply::none(), calendar),
     }
 }
 
@@ -85,8 +84,8 @@ fn text_reply(text: [u8; 14], n: usize) -> Reply {
 fn written(date: Date) -> Reply {
     let mut text = [0u8; 14];
     match dateparse::write_date(date, &mut text) {
-        Written::Refused(why) => reply::refused(why),
-        Written::Done(n) => text_reply(text, n),
+        Err(why) => reply::refused(why),
+        Ok(n) => text_reply(text, n),
     }
 }
 
@@ -100,20 +99,20 @@ fn month(calendar: Calendar, year: i32, month: u32) -> Reply {
 
 // ---- Queries about seconds
 
-fn time(answer: DayTime) -> Reply {
+fn time(answer: Result<(i32, u32), Refusal>) -> Reply {
     match answer {
-        DayTime::Refused(why) => reply::refused(why),
-        DayTime::At(jdn, seconds) => {
+        Err(why) => reply::refused(why),
+        Ok((jdn, seconds)) => {
             let a = reply::number(reply::none(), whole::widened(jdn));
             reply::count(a, seconds)
         }
     }
 }
 
-fn unix(answer: Timed) -> Reply {
+fn unix(answer: Result<(Date, u32), Refusal>) -> Reply {
     match answer {
-        Timed::Refused(why) => reply::refused(why),
-        Timed::At(date, seconds) => {
+        Err(why) => reply::refused(why),
+        Ok((date, seconds)) => {
             let a = reply::date(reply::none(), date);
             reply::count(a, seconds)
         }
@@ -156,10 +155,10 @@ fn of_date(line: &[u8], date: Date, at: usize) -> Reply {
     }
 }
 
-fn about_date(line: &[u8], answer: Dated, at: usize) -> Reply {
+fn about_date(line: &[u8], answer: Result<Date, Refusal>, at: usize) -> Reply {
     match answer {
-        Dated::Refused(why) => reply::refused(why),
-        Dated::Date(date) => of_date(line, date, at),
+        Err(why) => reply::refused(why),
+        Ok(date) => of_date(line, date, at),
     }
 }
 

@@ -1,7 +1,6 @@
 // Writes the fields of an answer into the output from a place on, each with a tab after it, and tells the place after them. What the output
 // has no room for is left out; the program sees that there is room.
 use crate::reply::Reply;
-use writer::Written;
 
 fn byte(out: &mut [u8], at: usize, b: u8) -> usize {
     if at < out.len() {
@@ -35,8 +34,8 @@ pub fn word(out: &mut [u8], at: usize, w: &[u8]) -> usize {
 
 fn number(out: &mut [u8], at: usize, x: i64) -> usize {
     match writer::put_whole(out, at, x) {
-        Written::Done(end) => byte(out, end, b'\t'),
-        Written::Refused(_) => at,
+        Ok(end) => byte(out, end, b'\t'),
+        Err(_) => at,
     }
 }
 

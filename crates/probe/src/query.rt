@@ -1,6 +1,5 @@
 // The fields of a query, which tabs part. A number that is missing counts as 0.
-use calendar::{Calendar, Chosen, Date, Dated, Refusal, Style};
-use numbertext::{Number, SignedNumber};
+use calendar::{Calendar, Date, Refusal, Style};
 
 // The calendar of a query and where the fields after it begin.
 #[derive(Clone, Copy)]
@@ -12,7 +11,7 @@ pub enum Head {
 // The date of a query and where the fields after it begin.
 #[derive(Clone, Copy)]
 pub struct Asked {
-    pub answer: Dated,
+    pub answer: Result<Date, Refusal>,
     pub next: usize,
 }
 
@@ -64,15 +63,15 @@ pub fn tail(line: &[u8], from: usize) -> &[u8] {
 
 pub fn signed_at(line: &[u8], at: usize) -> i32 {
     match numbertext::signed_at(line, at) {
-        SignedNumber::Value(x, _) => x,
-        SignedNumber::Refused(_) => 0,
+        Ok((x, _)) => x,
+        Err(_) => 0,
     }
 }
 
 pub fn number_at(line: &[u8], at: usize) -> u32 {
     match numbertext::number_at(line, at) {
-        Number::Value(n, _) => n,
-        Number::Refused(_) => 0,
+        Ok((n, _)) => n,
+        Err(_) => 0,
     }
 }
 
@@ -88,17 +87,17 @@ pub fn numbers_at(line: &[u8], at: usize) -> Numbers {
 
 // ---- Calendars and dates
 
-fn reformed(answer: Chosen, next: usize) -> Head {
+fn reformed(answer: Result<Calendar, Refusal>, next: usize) -> Head {
     match answer {
-        Chosen::Calendar(calendar) => Head::Calendar(calendar, next),
-        Chosen::Refused(why) => Head::Refused(why),
+        Ok(calendar) => Head::Calendar(calendar, next),
+        Err(why) => Head::Refused(why),
     }
 }
 
 fn reforming_at(line: &[u8], at: usize, next: usize) -> Head {
     match numbertext::signed_at(line, at) {
-        SignedNumber::Value(r, _) => reformed(Calendar::reforming(r), next),
-        SignedNumber::Refused(why) => Head::Refused(why),
+        Ok((r, _)) => reformed(Calendar::reforming(r), next),
+        Err(why) => Head::Refused(why),
     }
 }
 
@@ -148,7 +147,7 @@ fn record_at(calendar: Calendar, line: &[u8], at: usize) -> Asked {
         jdn: jdn,
     };
     Asked {
-        answer: Dated::Date(date),
+        answer: Ok(date),
         next: after_tab(line, style),
     }
 }

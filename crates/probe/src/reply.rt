@@ -1,5 +1,5 @@
 // The fields of an answer, as values: functions that hand them on are proved much faster than those that write into a lent buffer.
-use calendar::{Calendar, Counted, Date, Dated, Refusal, Style, Told};
+use calendar::{Calendar, Date, Refusal, Style};
 
 // The longest answer has 43 fields. A field is a number, or by its kind something else.
 #[derive(Clone, Copy)]
@@ -74,10 +74,10 @@ pub fn refused(why: Refusal) -> Reply {
     refusal(none(), why)
 }
 
-pub fn counted(reply: Reply, answer: Counted) -> Reply {
+pub fn counted(reply: Reply, answer: Result<u32, Refusal>) -> Reply {
     match answer {
-        Counted::Number(n) => count(reply, n),
-        Counted::Refused(why) => refusal(reply, why),
+        Ok(n) => count(reply, n),
+        Err(why) => refusal(reply, why),
     }
 }
 
@@ -89,18 +89,18 @@ pub fn bit(yes: bool) -> u32 {
     0
 }
 
-pub fn told(reply: Reply, answer: Told) -> Reply {
+pub fn told(reply: Reply, answer: Result<bool, Refusal>) -> Reply {
     match answer {
-        Told::Refused(why) => refusal(reply, why),
-        Told::Is(yes) => count(reply, bit(yes)),
+        Err(why) => refusal(reply, why),
+        Ok(yes) => count(reply, bit(yes)),
     }
 }
 
 // As a bit, and 2 for a refusal.
-fn truth(answer: Told) -> u32 {
+fn truth(answer: Result<bool, Refusal>) -> u32 {
     match answer {
-        Told::Refused(_) => 2,
-        Told::Is(yes) => bit(yes),
+        Err(_) => 2,
+        Ok(yes) => bit(yes),
     }
 }
 
@@ -164,13 +164,13 @@ pub fn date(reply: Reply, date: Date) -> Reply {
     counted(a, date.weekday())
 }
 
-pub fn dated_on(reply: Reply, answer: Dated) -> Reply {
+pub fn dated_on(reply: Reply, answer: Result<Date, Refusal>) -> Reply {
     match answer {
-        Dated::Date(d) => date(reply, d),
-        Dated::Refused(why) => refusal(reply, why),
+        Ok(d) => date(reply, d),
+        Err(why) => refusal(reply, why),
     }
 }
 
-pub fn dated(answer: Dated) -> Reply {
+pub fn dated(answer: Result<Date, Refusal>) -> Reply {
     dated_on(none(), answer)
 }

@@ -2,52 +2,52 @@
 use crate::reply::Reply;
 use crate::{query, reply};
 use datetext::Text;
-use numbertext::{Dash, End, Number, SignedNumber};
 use reader::Reader;
+use refusals::Refusal;
 
 // ---- What was read, and the place after it
 
-fn number(answer: Number) -> Reply {
+fn number(answer: Result<(u32, usize), Refusal>) -> Reply {
     match answer {
-        Number::Refused(why) => reply::refused(why),
-        Number::Value(n, next) => reply::place(reply::count(reply::none(), n), next),
+        Err(why) => reply::refused(why),
+        Ok((n, next)) => reply::place(reply::count(reply::none(), n), next),
     }
 }
 
-fn signed(answer: SignedNumber) -> Reply {
+fn signed(answer: Result<(i32, usize), Refusal>) -> Reply {
     match answer {
-        SignedNumber::Refused(why) => reply::refused(why),
-        SignedNumber::Value(x, next) => {
+        Err(why) => reply::refused(why),
+        Ok((x, next)) => {
             reply::place(reply::number(reply::none(), whole::widened(x)), next)
         }
     }
 }
 
-fn dash(answer: Dash) -> Reply {
+fn dash(answer: Result<usize, Refusal>) -> Reply {
     match answer {
-        Dash::Refused(why) => reply::refused(why),
-        Dash::Next(next) => reply::place(reply::none(), next),
+        Err(why) => reply::refused(why),
+        Ok(next) => reply::place(reply::none(), next),
     }
 }
 
-fn end(answer: End) -> Reply {
+fn end(answer: Result<(), Refusal>) -> Reply {
     match answer {
-        End::Refused(why) => reply::refused(why),
-        End::Reached => reply::letter(reply::none(), b'.'),
+        Err(why) => reply::refused(why),
+        Ok(()) => reply::letter(reply::none(), b'.'),
     }
 }
 
 // ---- The same by a reader that stands at the place, and where it stands after the read
 
-fn number_then(answer: Number, at: usize) -> Reply {
+fn number_then(answer: Result<(u32, usize), Refusal>, at: usize) -> Reply {
     reply::place(number(answer), at)
 }
 
-fn signed_then(answer: SignedNumber, at: usize) -> Reply {
+fn signed_then(answer: Result<(i32, usize), Refusal>, at: usize) -> Reply {
     reply::place(signed(answer), at)
 }
 
-fn dash_then(answer: Dash, at: usize) -> Reply {
+fn dash_then(answer: Result<usize, Refusal>, at: usize) -> Reply {
     reply::place(dash(answer), at)
 }
 
@@ -69,7 +69,7 @@ fn dash_by(text: &[u8], at: usize) -> Reply {
     dash_then(answer, reader.at)
 }
 
-fn end_by(text: &[u8], at: usize) -> End {
+fn end_by(text: &[u8], at: usize) -> Result<(), Refusal> {
     let reader = Reader { src: text, at };
     reader.end()
 }
@@ -104,7 +104,7 @@ pub fn at(line: &[u8], from: usize) -> Reply {
 
 fn said(answer: Text) -> Reply {
     match answer {
-        Text::Refused(why) => reply::refused(why),
+        Err(why) => reply::refused(why),
         Text::Ordinal {
             year,
             ordinal,

@@ -5,7 +5,8 @@ ghost use Rattle.walker.specs.Promise.{Steps};
 use crate::reply;
 use crate::reply::Reply;
 use calendar::Date;
-use walker::{Kind, Moved, Walked, Walker};
+use walker::{Kind, Moved, Walker};
+use refusals::Refusal;
 
 // The walker is lent to one step.
 pub fn lent(walker: Walker) -> Moved
@@ -21,7 +22,7 @@ pub fn lent(walker: Walker) -> Moved
 
 // ---- The four walkers by number: their makers, and what they are
 
-fn made(way: u32, date: Date) -> Walked {
+fn made(way: u32, date: Date) -> Result<Walker, Refusal> {
     match way {
         0 => walker::later(date),
         1 => walker::earlier(date),
@@ -49,12 +50,12 @@ fn way_of(kind: Kind) -> u32 {
 }
 
 // From 4 on nothing has looked at the walker: it is one of the four that is not ended, and from 8 on one that is.
-pub fn walker_of(way: u32, date: Date) -> Walked {
+pub fn walker_of(way: u32, date: Date) -> Result<Walker, Refusal> {
     if way < 4 {
         return made(way, date);
     }
     let kind = kind_of(way % 4);
-    Walked::Walker(Walker {
+    Ok(Walker {
         kind: kind,
         date: date,
         ended: 7 < way,

@@ -1,15 +1,13 @@
 -- A reader's move has one answer, and leaves one reader.
 -- Assumes nothing.
-use Rattle.std.specs.Prelude.{ℕ, ◌≡◌, List}
+use Rattle.std.specs.Prelude.{ℕ, ◌≡◌, List, Result, ℤ}
 use Rattle.std.proofs.Common.{sym, ◌∙◌, ap, ap₂}
 use Rattle.std.specs.Borrow.{Bor}
 use Rattle.numbertext.specs.Promise.{NumberAt, SignedAt, DashAt}
 use Rattle.numbertext.specs.One.{number_one, signed_one, dash_one}
-use Rattle.numbertext.specs.declared.Number.{Number}
-use Rattle.numbertext.specs.declared.SignedNumber.{SignedNumber}
-use Rattle.numbertext.specs.declared.Dash.{Dash}
 use Rattle.reader.specs.declared.Reader.{Reader}
 use Rattle.reader.specs.Promise.{after_number_value, after_signed_value, after_dash_value, Moves}
+use Rattle.refusals.specs.declared.Refusal.{Refusal}
 
 moves_one : {A : Type 0} {ReadAt : List ℕ → ℕ → A → Type 0} {after : A → ℕ → ℕ} → ((s : List ℕ) (at : ℕ) (x y : A) → ReadAt s at x → ReadAt s at y → x ≡ y)
     → {r r₁ r₂ : Reader} {x y : A} → Moves ReadAt after r r₁ x → Moves ReadAt after r r₂ y → (x ≡ y) × (r₁ ≡ r₂)
@@ -21,11 +19,11 @@ moves_one {A} {ReadAt} {after} one {r} {r₁} {r₂} {x} {y} h k =
     reader s n = record { src = s; at = n }
 
 module _ {r r₁ r₂ : Reader} where
-  pub number_move_one : {x y : Number} → Moves NumberAt after_number_value r r₁ x → Moves NumberAt after_number_value r r₂ y → (x ≡ y) × (r₁ ≡ r₂)
+  pub number_move_one : {x y : Result (ℕ × ℕ) Refusal} → Moves NumberAt after_number_value r r₁ x → Moves NumberAt after_number_value r r₂ y → (x ≡ y) × (r₁ ≡ r₂)
   number_move_one = moves_one (λ s at x y. number_one)
 
-  pub signed_move_one : {x y : SignedNumber} → Moves SignedAt after_signed_value r r₁ x → Moves SignedAt after_signed_value r r₂ y → (x ≡ y) × (r₁ ≡ r₂)
+  pub signed_move_one : {x y : Result (ℤ × ℕ) Refusal} → Moves SignedAt after_signed_value r r₁ x → Moves SignedAt after_signed_value r r₂ y → (x ≡ y) × (r₁ ≡ r₂)
   signed_move_one = moves_one (λ s at x y. signed_one)
 
-  pub dash_move_one : {x y : Dash} → Moves DashAt after_dash_value r r₁ x → Moves DashAt after_dash_value r r₂ y → (x ≡ y) × (r₁ ≡ r₂)
+  pub dash_move_one : {x y : Result ℕ Refusal} → Moves DashAt after_dash_value r r₁ x → Moves DashAt after_dash_value r r₂ y → (x ≡ y) × (r₁ ≡ r₂)
   dash_move_one = moves_one (λ s at x y. dash_one)

@@ -7,33 +7,34 @@ ghost use Rattle.std.specs.Prelude.{◌≡◌};
 ghost use Rattle.numbertext.specs.Promise.{NumberAt, SignedAt, DashAt, EndAt};
 ghost use Rattle.reader.specs.Promise.{after_number_value, after_signed_value, after_dash_value, Moves};
 
-use numbertext::{Dash, End, Number, SignedNumber};
+use refusals::Refusal;
+
 
 // Where a reader at `at` goes on after x was read there.
-fn after_number(x: Number, at: usize) -> usize
+fn after_number(x: Result<(u32, usize), Refusal>, at: usize) -> usize
     ensures { result ≡ after_number_value x at }
 {
     match x {
-        Number::Value(_, next) => next,
-        Number::Refused(_) => at,
+        Ok((_, next)) => next,
+        Err(_) => at,
     }
 }
 
-fn after_signed(x: SignedNumber, at: usize) -> usize
+fn after_signed(x: Result<(i32, usize), Refusal>, at: usize) -> usize
     ensures { result ≡ after_signed_value x at }
 {
     match x {
-        SignedNumber::Value(_, next) => next,
-        SignedNumber::Refused(_) => at,
+        Ok((_, next)) => next,
+        Err(_) => at,
     }
 }
 
-fn after_dash(x: Dash, at: usize) -> usize
+fn after_dash(x: Result<usize, Refusal>, at: usize) -> usize
     ensures { result ≡ after_dash_value x at }
 {
     match x {
-        Dash::Next(next) => next,
-        Dash::Refused(_) => at,
+        Ok(next) => next,
+        Err(_) => at,
     }
 }
 
@@ -51,7 +52,7 @@ impl<'a> Reader<'a> {
         Reader { src, at: 0 }
     }
 
-    pub fn number(&mut self) -> Number
+    pub fn number(&mut self) -> Result<(u32, usize), Refusal>
         ensures { Moves NumberAt after_number_value self.old self.new result }
     {
         let at = self.at;
@@ -61,7 +62,7 @@ impl<'a> Reader<'a> {
         x
     }
 
-    pub fn signed(&mut self) -> SignedNumber
+    pub fn signed(&mut self) -> Result<(i32, usize), Refusal>
         ensures { Moves SignedAt after_signed_value self.old self.new result }
     {
         let at = self.at;
@@ -71,7 +72,7 @@ impl<'a> Reader<'a> {
         x
     }
 
-    pub fn dash(&mut self) -> Dash
+    pub fn dash(&mut self) -> Result<usize, Refusal>
         ensures { Moves DashAt after_dash_value self.old self.new result }
     {
         let at = self.at;
@@ -82,7 +83,7 @@ impl<'a> Reader<'a> {
     }
 
     // Whether all bytes are read: the first one left over is told.
-    pub fn end(self) -> End
+    pub fn end(self) -> Result<(), Refusal>
         ensures { EndAt self.entry.src.now self.entry.at result }
     {
         numbertext::end_at(self.src, self.at)

@@ -1,5 +1,5 @@
 -- What the proofs need: from the answers of the calls below to the reasons.
-use Rattle.std.specs.Prelude.{◌≡◌, refl, Bool, true, false, not, cond, List, ◌⊎◌, ℕ, suc, ◌+◌, ◌<◌, ℤ, pos, negsuc, ◌-ℤ◌, take, ◌<ℤ◌, ◌≤ℤ◌}
+use Rattle.std.specs.Prelude.{◌≡◌, refl, Bool, true, false, not, cond, List, ◌⊎◌, ℕ, suc, ◌+◌, ◌<◌, ℤ, pos, negsuc, ◌-ℤ◌, take, ◌<ℤ◌, ◌≤ℤ◌, Ok, Err, Some, None}
 use Rattle.std.proofs.Common.{sym, ◌∙◌, ap, subst, ⊎_elim, arith, eq-eqb, ne_eqb}
 use Rattle.std.proofs.Math.IntN.{+ℤ_idr}
 use Rattle.std.specs.Int.Signed.{le_z_yes}
@@ -17,20 +17,15 @@ use Rattle.days.proofs.KnownDays.{known_days}
 use Rattle.calendar.specs.declared.Calendar.{Calendar}
 use Rattle.calendar.specs.declared.Calendar.TheVariants as Calendar'
 use Rattle.calendar.specs.declared.Date.{Date}
-use Rattle.calendar.specs.declared.Dated.TheVariants as Dated'
-use Rattle.calendar.specs.declared.ReformDate.TheVariants as ReformDate'
-use Rattle.calendar.specs.declared.Counted.TheVariants as Counted'
 use Rattle.calendar.specs.Calendars.{definition_of, timeline, labels, Accepted, IsRecordIn, IsRecord, Skipped}
 use Rattle.calendar.specs.Rows.{Unless, refuses, passes}
 use Rattle.calendar.specs.Promise.{made_up, RecordOfIn, record_of, AtYmd, on_label, AtOrdinal, on_ordinal, OffYear, LastJulian, FirstGregorian, ReformRecord, reform_record, never_julian, never_gregorian}
 use Rattle.months.specs.Promise.{number, YearLengthOf}
 use Rattle.monthruns.specs.declared.Runs.{Runs}
-use Rattle.monthruns.specs.declared.MonthDays.TheVariants as MonthDays'
 use Rattle.monthruns.specs.Promise.{are_runs, RunsOf}
 use Rattle.numbertext.specs.Numerals.{NoSigned, NoNumber, NoDash, TooFar}
 use Rattle.numbertext.specs.Promise.{SignedAt, SignedFrom, At}
 use Rattle.numbertext.specs.One.{signed_one}
-use Rattle.numbertext.specs.declared.SignedNumber.{SignedNumber}
 use Rattle.datetext.specs.Grammar.{OrdinalText, YmdText, Fault}
 use Rattle.datetext.specs.Promise.{ReadDate}
 use Rattle.datetext.specs.declared.Text.{Text}
@@ -84,7 +79,7 @@ module _ (c : Calendar) (a : Accepted c) (n : ℤ) where
 
 -- ---- What is said of a record and of a number
 
-is_record : {t : Timeline} {c : Calendar} {n : ℤ} {d : Date} → RecordOfIn t c n (Dated'.Date d) → IsRecordIn t c n d
+is_record : {t : Timeline} {c : Calendar} {n : ℤ} {d : Date} → RecordOfIn t c n (Ok d) → IsRecordIn t c n d
 is_record (record_of p) = p
 
 not_ten : {at : ℕ} {u : List ℕ} {f : Refusal} → NoNumber at u f → f.number ≡ 10 → ⊥
@@ -95,10 +90,10 @@ not_ten (NoNumber.above (TooFar.too_far x y z)) e = omega arith
 -- ---- A year, a month and a day
 
 module _ (c : Calendar) (a : Accepted c) (y : ℤ) (m d k : ℕ) (v : Month m) where
-  pub ymd_date : {r : Date} → AtYmd c y m d (Dated'.Date r) → OfYmd (timeline c) c y m d k (Reason'.Accepted r (rule_of r.style r.year))
+  pub ymd_date : {r : Date} → AtYmd c y m d (Ok r) → OfYmd (timeline c) c y m d k (Reason'.Accepted r (rule_of r.style r.year))
   ymd_date (passes b (passes w (passes f (passes g (on_label e (passes i p)))))) = OfYmd.borne e (OnDay.accepted i (is_record p))
 
-  pub ymd_missing : {f : Refusal} → AtYmd c y m d (Dated'.Refused f) → f.number ≡ 4 → MissingIn (timeline c) (label y m d)
+  pub ymd_missing : {f : Refusal} → AtYmd c y m d (Err f) → f.number ≡ 4 → MissingIn (timeline c) (label y m d)
   ymd_missing (refuses n) e = absurd (n a)
   ymd_missing (passes b (refuses n)) e = absurd (n v)
   ymd_missing (passes b (passes w (refuses n))) e = n
@@ -106,7 +101,7 @@ module _ (c : Calendar) (a : Accepted c) (y : ℤ) (m d k : ℕ) (v : Month m) w
   ymd_missing (passes b (passes w (passes f (passes g (on_label i (refuses n)))))) e = absurd (omega arith)
   ymd_missing (passes b (passes w (passes f (passes g (on_label i (passes _ x)))))) e = elim x [ ]
 
-  pub ymd_skipped : {f : Refusal} → AtYmd c y m d (Dated'.Refused f) → f.number ≡ 5 → Skipped c (label y m d)
+  pub ymd_skipped : {f : Refusal} → AtYmd c y m d (Err f) → f.number ≡ 5 → Skipped c (label y m d)
   ymd_skipped (refuses n) e = absurd (n a)
   ymd_skipped (passes b (refuses n)) e = absurd (n v)
   ymd_skipped (passes b (passes w (refuses n))) e = absurd (omega arith)
@@ -114,7 +109,7 @@ module _ (c : Calendar) (a : Accepted c) (y : ℤ) (m d k : ℕ) (v : Month m) w
   ymd_skipped (passes b (passes w (passes f (passes g (on_label i (refuses n)))))) e = absurd (omega arith)
   ymd_skipped (passes b (passes w (passes f (passes g (on_label i (passes _ x)))))) e = elim x [ ]
 
-  pub ymd_outside : {f : Refusal} → AtYmd c y m d (Dated'.Refused f) → ¬ (f.number ≡ 4) → ¬ (f.number ≡ 5) → OfYmd (timeline c) c y m d k (Reason'.Outside (refusal 7 0 y) (not (is_negative_value y)))
+  pub ymd_outside : {f : Refusal} → AtYmd c y m d (Err f) → ¬ (f.number ≡ 4) → ¬ (f.number ≡ 5) → OfYmd (timeline c) c y m d k (Reason'.Outside (refusal 7 0 y) (not (is_negative_value y)))
   ymd_outside (refuses n) h i = absurd (n a)
   ymd_outside (passes b (refuses n)) h i = absurd (n v)
   ymd_outside (passes b (passes w (refuses n))) h i = absurd (h refl)
@@ -122,10 +117,10 @@ module _ (c : Calendar) (a : Accepted c) (y : ℤ) (m d k : ℕ) (v : Month m) w
   ymd_outside (passes b (passes w (passes f (passes g (on_label {n} e (refuses out)))))) h i = OfYmd.borne e (OnDay.outside {above = not (is_negative_value y)} (end_passed c a n y (year_is e) out))
   ymd_outside (passes b (passes w (passes f (passes g (on_label e (passes _ x)))))) h i = elim x [ ]
 
-  pub missing_row : {r : Runs} → MissingIn (timeline c) (label y m d) → RunsOf c y m (MonthDays'.Are r) → OfYmd (timeline c) c y m d k (Reason'.Missing (refusal 4 k (pos d)) y m r)
+  pub missing_row : {r : Runs} → MissingIn (timeline c) (label y m d) → RunsOf c y m (Ok r) → OfYmd (timeline c) c y m d k (Reason'.Missing (refusal 4 k (pos d)) y m r)
   missing_row n (passes b (passes w (are_runs p))) = OfYmd.missing n p
 
-  pub runs_refused : {f : Refusal} → RunsOf c y m (MonthDays'.Refused f) → ⊥
+  pub runs_refused : {f : Refusal} → RunsOf c y m (Err f) → ⊥
   runs_refused (refuses n) = n a
   runs_refused (passes b (refuses n)) = n v
   runs_refused (passes b (passes _ x)) = elim x [ ]
@@ -145,7 +140,7 @@ only_switch {r} s = by s.switches
     by this = refl
     by (later x) = absurd (no_switch x)
 
-pub gap_sides : {c : Calendar} {b e : Date} → LastJulian c (ReformDate'.Date b) → FirstGregorian c (ReformDate'.Date e) → (l : Label) → Skipped c l → Gap (timeline c) c l b e
+pub gap_sides : {c : Calendar} {b e : Date} → LastJulian c (Ok (Some b)) → FirstGregorian c (Ok (Some e)) → (l : Label) → Skipped c l → Gap (timeline c) c l b e
 gap_sides {b = b} {e} (passes x (reform_record {r} p)) (passes z (reform_record q)) l s = record {
   skipped = s;
   last_before = subst (λ (n : ℤ). IsRecord (Calendar'.Reforming r) (n -ℤ pos 1) b) (only_switch s) p;
@@ -153,14 +148,14 @@ gap_sides {b = b} {e} (passes x (reform_record {r} p)) (passes z (reform_record 
 }
 
 -- a calendar that skips some label has both sides
-pub never_side : {i : ℤ} (c : Calendar) → SkipsSome c → Unless (Accepted c) (ReformDate'.Refused made_up) (ReformRecord i c) ReformDate'.Never → ⊥
+pub never_side : {i : ℤ} (c : Calendar) → SkipsSome c → Unless (Accepted c) (Err made_up) (ReformRecord i c) (Ok None) → ⊥
 never_side c s (passes x p) = by p s
   where
-    by : {i : ℤ} {c : Calendar} → ReformRecord i c ReformDate'.Never → SkipsSome c → ⊥
+    by : {i : ℤ} {c : Calendar} → ReformRecord i c (Ok None) → SkipsSome c → ⊥
     by never_julian (l, s) = no_switch s.switches
     by never_gregorian (l, s) = no_switch s.switches
 
-pub refused_side : {i : ℤ} (c : Calendar) {f : Refusal} → Accepted c → Unless (Accepted c) (ReformDate'.Refused made_up) (ReformRecord i c) (ReformDate'.Refused f) → ⊥
+pub refused_side : {i : ℤ} (c : Calendar) {f : Refusal} → Accepted c → Unless (Accepted c) (Err made_up) (ReformRecord i c) (Err f) → ⊥
 refused_side c a (refuses n) = n a
 refused_side c a (passes _ x) = elim x [ ]
 
@@ -170,25 +165,25 @@ skipped_ymd s (AroundGap.around_gap g) = OfYmd.skipped (g _ s)
 -- ---- A year and an ordinal
 
 module _ (c : Calendar) (a : Accepted c) (y : ℤ) (o k : ℕ) where
-  pub ordinal_date : {r : Date} → AtOrdinal c y o (Dated'.Date r) → OfOrdinal (timeline c) c y o k (Reason'.Accepted r (rule_of r.style r.year))
+  pub ordinal_date : {r : Date} → AtOrdinal c y o (Ok r) → OfOrdinal (timeline c) c y o k (Reason'.Accepted r (rule_of r.style r.year))
   ordinal_date (passes b (passes f (on_ordinal e p (passes i q)))) = OfOrdinal.in_year e p (OnDay.accepted i (is_record q))
 
-  pub ordinal_off : {f : Refusal} → AtOrdinal c y o (Dated'.Refused f) → f.number ≡ 6 → OffYear c y o
+  pub ordinal_off : {f : Refusal} → AtOrdinal c y o (Err f) → f.number ≡ 6 → OffYear c y o
   ordinal_off (refuses n) e = absurd (n a)
   ordinal_off (passes b (refuses n)) e = n
   ordinal_off (passes b (passes f (on_ordinal i p (refuses n)))) e = absurd (omega arith)
   ordinal_off (passes b (passes f (on_ordinal i p (passes _ x)))) e = elim x [ ]
 
-  pub ordinal_outside : {f : Refusal} → AtOrdinal c y o (Dated'.Refused f) → ¬ (f.number ≡ 6) → OfOrdinal (timeline c) c y o k (Reason'.Outside (refusal 7 0 y) (not (is_negative_value y)))
+  pub ordinal_outside : {f : Refusal} → AtOrdinal c y o (Err f) → ¬ (f.number ≡ 6) → OfOrdinal (timeline c) c y o k (Reason'.Outside (refusal 7 0 y) (not (is_negative_value y)))
   ordinal_outside (refuses n) h = absurd (n a)
   ordinal_outside (passes b (refuses n)) h = absurd (h refl)
   ordinal_outside (passes b (passes f (on_ordinal {n} e p (refuses out)))) h = OfOrdinal.in_year e p (OnDay.outside {above = not (is_negative_value y)} (end_passed c a n y e out))
   ordinal_outside (passes b (passes f (on_ordinal e p (passes _ x)))) h = elim x [ ]
 
-  pub length_row : {l : ℕ} → OffYear c y o → YearLengthOf c y (Counted'.Number l) → OfOrdinal (timeline c) c y o k (Reason'.OffYear (refusal 6 k (pos o)) y l)
+  pub length_row : {l : ℕ} → OffYear c y o → YearLengthOf c y (Ok l) → OfOrdinal (timeline c) c y o k (Reason'.OffYear (refusal 6 k (pos o)) y l)
   length_row (n, p, h) (passes b (number q)) = OfOrdinal.off_year q (subst (λ (n : ℕ). (o ≡ 0) ⊎ (n < o)) (days_one p q) h)
 
-  pub length_refused : {f : Refusal} → YearLengthOf c y (Counted'.Refused f) → ⊥
+  pub length_refused : {f : Refusal} → YearLengthOf c y (Err f) → ⊥
   length_refused (refuses n) = n a
   length_refused (passes _ x) = elim x [ ]
 
@@ -198,13 +193,13 @@ module _ (c : Calendar) (a : Accepted c) (y : ℤ) (o k : ℕ) where
 abbrev pub YearFault : List ℕ → Bool → Type 0
 YearFault s b = (f : Refusal) → Fault s f → Whether (NoSigned 0 s f) b
 
-pub no_year : {s : List ℕ} {g : Refusal} → SignedAt s 0 (SignedNumber.Refused g) → YearFault s true
+pub no_year : {s : List ℕ} {g : Refusal} → SignedAt s 0 (Err g) → YearFault s true
 no_year {s} (At.within h (SignedFrom.no_number n)) f p = subst (NoSigned 0 s) (T.one_fault (Fault.at_year n) p) n
 no_year (At.past h) f p = absurd (omega arith)
 
-pub some_year : {s : List ℕ} {y : ℤ} {i : ℕ} → SignedAt s 0 (SignedNumber.Value y i) → YearFault s false
+pub some_year : {s : List ℕ} {y : ℤ} {i : ℕ} → SignedAt s 0 (Ok (y, i)) → YearFault s false
 some_year {s} {y} {i} p f q n =
-    let e : SignedNumber.Value y i ≡ SignedNumber.Refused f = signed_one p (At.within (omega arith) (SignedFrom.no_number n)) in
+    let e : Ok (y, i) ≡ Err f = signed_one p (At.within (omega arith) (SignedFrom.no_number n)) in
     let z : ◌≡◌ {A = ℕ} 0 1 = cc in
     omega arith
 
@@ -239,7 +234,7 @@ faulty {s} {f} {b} {e = e} w h i x = subst (λ (p : ℕ). OfFault s (Reason'.Fau
 
 -- ---- What was read
 module _ {s : List ℕ} where
-  pub is_faulty : {f : Refusal} → ReadDate s (Text.Refused f) → Fault s f
+  pub is_faulty : {f : Refusal} → ReadDate s (Err f) → Fault s f
   is_faulty (ReadDate.faulty p) = p
 
   pub is_ordinal : {y : ℤ} {o k : ℕ} → ReadDate s (Text.Ordinal y o k) → OrdinalText s y o k

@@ -1,14 +1,12 @@
 -- THE THEOREMS ON THE REASONS. The reason that holds is the reason for the answer of `parse_date`: it names the record, or the refusal, that `parse_date`
 -- gives for the same calendar and text (`reason_of_answer`). A fault stands in its text, or at the end of it (`fault_inside`), and what could have stood
 -- there is told of such a place too, or of the next one (`mended_inside`). That exactly one reason holds is in `One`.
-use Rattle.std.specs.Prelude.{◌≡◌, refl, Bool, true, false, cond, List, ◌∷◌, ◌++◌, ℕ, suc, ◌+◌, ◌≤◌, eqb, length, ℤ}
+use Rattle.std.specs.Prelude.{◌≡◌, refl, Bool, true, false, cond, List, ◌∷◌, ◌++◌, ℕ, suc, ◌+◌, ◌≤◌, eqb, length, ℤ, Result, Ok, Err}
 use Rattle.std.proofs.Common.{subst, arith, length-append}
 use Rattle.days.specs.DayByDay.{Timeline, Rising, Month}
 use Rattle.days.proofs.RisingTimelines.{skipped_in_nowhere}
 use Rattle.days.proofs.AcceptedYears.{accepted_rising}
 use Rattle.calendar.specs.declared.Calendar.{Calendar}
-use Rattle.calendar.specs.declared.Dated.{Dated}
-use Rattle.calendar.specs.declared.Dated.TheVariants as Dated'
 use Rattle.calendar.specs.Calendars.{timeline}
 use Rattle.calendar.specs.Rows.{refuses, passes}
 use Rattle.calendar.specs.Promise.{made_up, GivenIn, record_of, YmdIn, on_label, OrdinalIn, on_ordinal}
@@ -23,20 +21,21 @@ use Rattle.reasons.specs.declared.Reason.{Reason}
 use Rattle.reasons.specs.declared.Reason.TheVariants as Reason'
 use Rattle.reasons.specs.Promise.{OnDay, OfYmd, OfOrdinal, mended_at_value, OfFault, Explains}
 use Rattle.reasons.specs.One.{inside_none, on_or_off}
+use Rattle.calendar.specs.declared.Date.{Date}
 
 -- the answer that a reason is for
-abbrev pub answer_of : Reason → Dated
-answer_of (Reason'.Accepted d leap) = Dated'.Date d
-answer_of Reason'.MadeUp = Dated'.Refused made_up
-answer_of (Reason'.Faulty f of_year p e) = Dated'.Refused f
-answer_of (Reason'.Missing f y m r) = Dated'.Refused f
-answer_of (Reason'.Skipped f before after) = Dated'.Refused f
-answer_of (Reason'.OffYear f y length) = Dated'.Refused f
-answer_of (Reason'.Outside f above) = Dated'.Refused f
+abbrev pub answer_of : Reason → Result Date Refusal
+answer_of (Reason'.Accepted d leap) = Ok d
+answer_of Reason'.MadeUp = Err made_up
+answer_of (Reason'.Faulty f of_year p e) = Err f
+answer_of (Reason'.Missing f y m r) = Err f
+answer_of (Reason'.Skipped f before after) = Err f
+answer_of (Reason'.OffYear f y length) = Err f
+answer_of (Reason'.Outside f above) = Err f
 
 -- what a call without a text answers, which has no place yet
-record Answers (k : ℕ) (Rows : Dated → Type 0) (r : Reason) : Type 0 where
-  answer : Dated
+record Answers (k : ℕ) (Rows : Result Date Refusal → Type 0) (r : Reason) : Type 0 where
+  answer : Result Date Refusal
   rows : Rows answer
   placed : placed_at k answer ≡ answer_of r
 
@@ -67,7 +66,7 @@ answered {c} {s} {r} (Explains.by_ymd x u p) = let a = of_ymd (timeline c) (acce
 answered {c} {s} {r} (Explains.by_ordinal x u p) = let a = of_ordinal (timeline c) (accepted_rising x) p in passes x (subst (ByTextIn (timeline c) c s) a.placed (by_ordinal u a.rows))
 
 -- the reason is that of the answer
-pub reason_of_answer : {c : Calendar} {s : List ℕ} {r : Reason} {a : Dated} → Explains c s r → ParseDate c s a → a ≡ answer_of r
+pub reason_of_answer : {c : Calendar} {s : List ℕ} {r : Reason} {a : Result Date Refusal} → Explains c s r → ParseDate c s a → a ≡ answer_of r
 reason_of_answer {c} {s} {r} {a} e p = parse_date_one c s a (answer_of r) p (answered e)
 
 -- ---- Where a fault stands

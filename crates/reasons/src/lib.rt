@@ -14,11 +14,10 @@ ghost use Rattle.reasons.specs.Promise.{rule_of, OfYmd, OfOrdinal, mended_at_val
 ghost use Rattle.reasons.specs.Laws.{YearFault, SkipsSome, AroundGap};
 ghost use Rattle.calendar.specs.Promise.{OffYear};
 
-use calendar::{Calendar, Counted, Date, Dated, ReformDate, Refusal, Style, Switch};
+use calendar::{Calendar, Date, Refusal, Style};
 use datetext::Text;
 use expected::Expected;
-use monthruns::{MonthDays, Runs};
-use numbertext::SignedNumber;
+use monthruns::Runs;
 
 // One case for each reason. A refusal has the number, place and value that `parse_date` gives.
 #[derive(Clone, Copy)]
@@ -69,9 +68,9 @@ pub fn explain(calendar: Calendar, text: &[u8]) -> Reason
     ensures { Explains calendar text.now result }
 {
     match calendar::switch_of(calendar) {
-        Switch::MadeUp => Reason::MadeUp,
-        Switch::At(_) => match datetext::read_date(text) {
-            Text::Refused(why) => of_fault(text, why),
+        Err(_) => Reason::MadeUp,
+        Ok(_) => match datetext::read_date(text) {
+            Err(why) => of_fault(text, why),
             Text::Ordinal {
                 year,
                 ordinal,
@@ -118,8 +117,8 @@ fn is_in_year(text: &[u8]) -> bool
     ensures { YearFault text.now result }
 {
     match numbertext::signed_at(text, 0) {
-        SignedNumber::Refused(_) => true,
-        SignedNumber::Value(_, _) => false,
+        Err(_) => true,
+        Ok((_, _)) => false,
     }
 }
 
@@ -130,8 +129,8 @@ fn of_ymd(calendar: Calendar, year: i32, month: u32, day: u32, place: usize) -> 
     ensures { OfYmd (timeline calendar) calendar year month day place result }
 {
     match calendar.at_ymd(year, month, day) {
-        Dated::Date(date) => accepted(date),
-        Dated::Refused(why) => {
+        Ok(date) => accepted(date),
+        Err(why) => {
             if why.number == 4 {
                 return missing(calendar, year, month, day, place);
             }
@@ -148,13 +147,13 @@ fn missing(calendar: Calendar, year: i32, month: u32, day: u32, place: usize) ->
     ensures { OfYmd (timeline calendar) calendar year month day place result }
 {
     match monthruns::runs_of(calendar, year, month) {
-        MonthDays::Are(days) => Reason::Missing {
+        Ok(days) => Reason::Missing {
             why: refusals::refusal_at(4, place, day),
             year,
             month,
             days,
         },
-        MonthDays::Refused(_) => Reason::MadeUp,
+        Err(_) => Reason::MadeUp,
     }
 }
 
@@ -164,17 +163,17 @@ fn skipped(calendar: Calendar, day: u32, place: usize) -> Reason
     ensures { AroundGap calendar day place result }
 {
     match calendar.last_julian_date() {
-        ReformDate::Date(before) => match calendar.first_gregorian_date() {
-            ReformDate::Date(after) => Reason::Skipped {
+        Ok(Some(before)) => match calendar.first_gregorian_date() {
+            Ok(Some(after)) => Reason::Skipped {
                 why: refusals::refusal_at(5, place, day),
                 before,
                 after,
             },
-            ReformDate::Never => Reason::MadeUp,
-            ReformDate::Refused(_) => Reason::MadeUp,
+            Ok(None) => Reason::MadeUp,
+            Err(_) => Reason::MadeUp,
         },
-        ReformDate::Never => Reason::MadeUp,
-        ReformDate::Refused(_) => Reason::MadeUp,
+        Ok(None) => Reason::MadeUp,
+        Err(_) => Reason::MadeUp,
     }
 }
 
@@ -185,8 +184,8 @@ fn of_ordinal(calendar: Calendar, year: i32, ordinal: u32, place: usize) -> Reas
     ensures { OfOrdinal (timeline calendar) calendar year ordinal place result }
 {
     match calendar.at_ordinal_date(year, ordinal) {
-        Dated::Date(date) => accepted(date),
-        Dated::Refused(why) => {
+        Ok(date) => accepted(date),
+        Err(why) => {
             if why.number == 6 {
                 return off_year(calendar, year, ordinal, place);
             }
@@ -200,12 +199,12 @@ fn off_year(calendar: Calendar, year: i32, ordinal: u32, place: usize) -> Reason
     ensures { OfOrdinal (timeline calendar) calendar year ordinal place result }
 {
     match months::year_length(calendar, year) {
-        Counted::Number(length) => Reason::OffYear {
+        Ok(length) => Reason::OffYear {
             why: refusals::refusal_at(6, place, ordinal),
             year,
             length,
         },
-        Counted::Refused(_) => Reason::MadeUp,
+        Err(_) => Reason::MadeUp,
     }
 }
 

@@ -1,6 +1,6 @@
 -- From a month in one reckoning to the Swedish month, and from there to a year and to a label.
 -- Assumes nothing.
-use Rattle.std.specs.Prelude.{◌≡◌, refl, Bool, ◌⊎◌, ℕ, ◌+◌, ◌-◌, ◌*◌, ◌<◌, ◌≤◌, ℤ, pos, ◌<ℤ◌}
+use Rattle.std.specs.Prelude.{◌≡◌, refl, Bool, ◌⊎◌, ℕ, ◌+◌, ◌-◌, ◌*◌, ◌<◌, ◌≤◌, ℤ, pos, ◌<ℤ◌, Ok, Err}
 use Rattle.std.proofs.Common.{sym, ◌∙◌, ap, subst, subst₂, inl, inr, ⊎_elim, arith}
 use Rattle.std.specs.Int.Signed.{<ℤ_irrefl}
 use Rattle.whole.specs.Tests as N
@@ -19,8 +19,6 @@ use Rattle.days.proofs.ClosedNumbers.{number, numbered, days_before_value, withi
 use Rattle.days.proofs.ClosedRuns.{top, julian_month_value, gregorian_month, gregorian_past, first_julian, first_gregorian}
 use Rattle.days.proofs.Swedish.{swedish_rises}
 use Rattle.days.proofs.SwedishMonths.{SwedishMonth, new_month, swedish_month, swedish_day, swedish_from, swedish_room, swedish_year, swedish_missing, swedish_skips, swedish_skips_only, SwedishGap, in_1700, in_1753}
-use Rattle.switches.specs.declared.Spanned.TheVariants as Spanned'
-use Rattle.switches.specs.declared.Found.TheVariants as Found'
 use Rattle.switches.specs.declared.MonthSpan.{MonthSpan}
 use Rattle.switches.specs.Promise as S
 use Rattle.inner.specs.Natural.{biased_year_value}
@@ -30,10 +28,10 @@ use Rattle.swedish.specs.Promise.{MonthIs, YearSpan, label_at, Finds, finds_skip
 use Rattle.swedish.specs.Private.{Plain, Refuses, in_a_gap, in_none, Labelled}
 
 -- ---- A month in one reckoning
-pub plain_is : {r y m : ℕ} {s : MonthSpan} → S.SpansMonth r y m (Spanned'.Month s) → Plain r y m s.first s.past
+pub plain_is : {r y m : ℕ} {s : MonthSpan} → S.SpansMonth r y m (Ok s) → Plain r y m s.first s.past
 plain_is (S.spans_month v) = (refl, refl)
 
-pub refused_none : {r y m : ℕ} {f : Refusal} → S.SpansMonth r y m (Spanned'.Refused f) → ¬ Month m
+pub refused_none : {r y m : ℕ} {f : Refusal} → S.SpansMonth r y m (Err f) → ¬ Month m
 refused_none (S.no_month n) = n
 
 whole_month : (leap_at : ℕ → Bool) (start : ℕ → ℕ) (y m : ℕ) → 1 ≤ m → m ≤ 12 → start y < 1_600_000_000_000 → start y + days_before_value (leap_at y) m + month_length (leap_at y) m < 1_600_000_000_367
@@ -161,12 +159,12 @@ module _ (y m d : ℕ) (h : BiasedYear y) (v : Month m) {a b : ℕ} (s : MonthIs
       large : {n : ℕ} → b ≡ a + n → n < d
       large e = omega arith
 
-pub refused_row : (y m d n : ℕ) → BiasedYear (biased_year_value y) → Month m → {a b : ℕ} → MonthIs (biased_year_value y) m a b → 1 ≤ d → b ≤ a + d - 1 → Refuses (biased_year_value y) m d n → Finds y m d (Found'.Refused (refusal n 0 (pos d)))
+pub refused_row : (y m d n : ℕ) → BiasedYear (biased_year_value y) → Month m → {a b : ℕ} → MonthIs (biased_year_value y) m a b → 1 ≤ d → b ≤ a + d - 1 → Refuses (biased_year_value y) m d n → Finds y m d (Err (refusal n 0 (pos d)))
 refused_row y m d n h v s f g (in_a_gap p) = finds_skipped (swedish_skips p)
 refused_row y m d n h v s f g (in_none x) = finds_missing (off_days (biased_year_value y) m d h v s f g x)
 
 -- a label with no such month, or of day 0
-pub no_month_row : (y m d : ℕ) → ¬ Month m → Finds y m d (Found'.Refused (refusal 4 0 (pos d)))
+pub no_month_row : (y m d : ℕ) → ¬ Month m → Finds y m d (Err (refusal 4 0 (pos d)))
 no_month_row y m d x = finds_missing (
   λ (n, e). let p = subst (λ (l : Label). Month l.month) e ((timeline_proper (timeline Swedish) n).0, (timeline_proper (timeline Swedish) n).1) in x p,
   λ s. x (gap_month (swedish_skips_only s)),
@@ -176,7 +174,7 @@ no_month_row y m d x = finds_missing (
     gap_month in_1700 = (omega arith, omega arith)
     gap_month (in_1753 h k) = (omega arith, omega arith)
 
-pub no_day_row : (y m d : ℕ) → d < 1 → Finds y m d (Found'.Refused (refusal 4 0 (pos d)))
+pub no_day_row : (y m d : ℕ) → d < 1 → Finds y m d (Err (refusal 4 0 (pos d)))
 no_day_row y m d h = finds_missing (
   λ (n, e). omega (arith, (timeline_proper (timeline Swedish) n).2, ap (λ (l : Label). l.day) e),
   λ s. never (swedish_skips_only s),

@@ -1,6 +1,6 @@
 -- A promise allows one answer.
 -- Assumes nothing.
-use Rattle.std.specs.Prelude.{◌≡◌, refl, ℕ, ◌+◌, ◌-◌, ◌<◌, ◌≤◌}
+use Rattle.std.specs.Prelude.{◌≡◌, refl, ℕ, ◌+◌, ◌-◌, ◌<◌, ◌≤◌, Result, Ok}
 use Rattle.std.proofs.Common.{sym, ◌∙◌, ap, ap₂, subst, arith}
 use Rattle.whole.specs.Biased.{unbias_injective}
 use Rattle.days.specs.DayByDay.{Label, Month, Swedish, labels, Ordinal, swedish_accepted}
@@ -12,21 +12,19 @@ use Rattle.days.proofs.SwedishMonths.{swedish_month, swedish_month_one, swedish_
 use Rattle.inner.specs.Natural.{biased_year_value}
 use Rattle.inner.specs.Spots.{spot}
 use Rattle.inner.specs.declared.Spot.{Spot}
-use Rattle.switches.specs.declared.Spanned.{Spanned}
-use Rattle.switches.specs.declared.Spanned.TheVariants as Spanned'
-use Rattle.switches.specs.declared.Found.{Found}
-use Rattle.switches.specs.declared.Found.TheVariants as Found'
 use Rattle.swedish.specs.Promise.{MonthIs, SpansMonth, spans_month, no_month, YearSpan, Finds, finds, finds_skipped, finds_missing, SpotOn}
+use Rattle.refusals.specs.declared.Refusal.{Refusal}
+use Rattle.switches.specs.declared.MonthSpan.{MonthSpan}
 
 pub month_is_one : (y m : ℕ) {a b c d : ℕ} → Month m → MonthIs y m a b → MonthIs y m c d → (a ≡ c) × (b ≡ d)
 month_is_one y m v s t =
     let (e, f) = swedish_month_one y m v.0 v.1 s.is_month t.is_month in
     (e, s.past_is ∙ ap₂ ◌+◌ e f ∙ sym t.past_is)
 
-pub spans_month_one : (y m : ℕ) (p q : Spanned) → SpansMonth y m p → SpansMonth y m q → p ≡ q
+pub spans_month_one : (y m : ℕ) (p q : Result MonthSpan Refusal) → SpansMonth y m p → SpansMonth y m q → p ≡ q
 spans_month_one y m p q (spans_month v s) (spans_month w t) =
     let (e, f) = month_is_one y m v s t in
-    ap₂ (λ (a b : ℕ). Spanned'.Month (record { switch = b; first = a; past = b; gregorian = a })) e f
+    ap₂ (λ (a b : ℕ). Ok (record { switch = b; first = a; past = b; gregorian = a })) e f
 spans_month_one y m p q (spans_month v s) (no_month n) = absurd (n v)
 spans_month_one y m p q (no_month n) (spans_month v s) = absurd (n v)
 spans_month_one y m p q (no_month n) (no_month i) = refl
@@ -54,11 +52,11 @@ module _ (y : ℕ) where
       let q = no_later t s in
       (omega (arith, p.0, q.0), omega (arith, p.1, q.1))
 
-pub finds_one : (y m d : ℕ) (p q : Found) → Finds y m d p → Finds y m d q → p ≡ q
+pub finds_one : (y m d : ℕ) (p q : Result Spot Refusal) → Finds y m d p → Finds y m d q → p ≡ q
 finds_one y m d p q (finds {k} {o} e i) (finds {k = l} {o = j} f n) =
     let g : k ≡ l = unbias_injective day_bias k l (once swedish_rises (e ∙ sym f)) in
     let h : o ≡ j = place_one i (subst (λ (x : ℕ). Ordinal (labels Swedish) (day x) j) (sym g) n) in
-    ap₂ (λ (k o : ℕ). Found'.At (spot k y o m d)) g h
+    ap₂ (λ (k o : ℕ). Ok (spot k y o m d)) g h
 finds_one y m d p q (finds {k} e i) (finds_skipped s) = absurd (skipped_nowhere swedish_accepted s (day k, e))
 finds_one y m d p q (finds {k} e i) (finds_missing x) = absurd (x.0 (day k, e))
 finds_one y m d p q (finds_skipped s) (finds {k} e i) = absurd (skipped_nowhere swedish_accepted s (day k, e))

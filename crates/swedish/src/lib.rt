@@ -12,7 +12,8 @@ ghost use Rattle.swedish.specs.Private.{Plain, Refuses, Labelled};
 
 use inner::Spot;
 use refusals::refusal_with;
-use switches::{Found, MonthSpan, Span, Spanned};
+use switches::{MonthSpan, Span};
+use refusals::Refusal;
 
 // March of 1700, of 1712 and of 1753, with the months of the biased years counted through.
 const MARCH_1700: u64 = 25_769_828_403;
@@ -37,11 +38,11 @@ fn plain(switch: u64, year: u32, month: u32) -> Span
     ensures { Plain switch (biased_year_value year) month result.first result.past }
 {
     match switches::month_span(switch, year, month) {
-        Spanned::Month(m) => Span {
+        Ok(m) => Span {
             first: m.first,
             past: m.past,
         },
-        Spanned::Refused(_) => Span { first: 0, past: 0 },
+        Err(_) => Span { first: 0, past: 0 },
     }
 }
 
@@ -87,17 +88,17 @@ fn days_of(year: u32, month: u32) -> Span
 }
 
 // A month is one run of days. One that is not from 1 to 12 is refused 3.
-pub fn month_span(year: u32, month: u32) -> Spanned
+pub fn month_span(year: u32, month: u32) -> Result<MonthSpan, Refusal>
     ensures { SpansMonth (biased_year_value year) month result }
 {
     if month < 1 {
-        return Spanned::Refused(refusal_with(3, month));
+        return Err(refusal_with(3, month));
     }
     if 12 < month {
-        return Spanned::Refused(refusal_with(3, month));
+        return Err(refusal_with(3, month));
     }
     let m = days_of(year, month);
-    Spanned::Month(MonthSpan {
+    Ok(MonthSpan {
         switch: m.past,
         first: m.first,
         past: m.past,
@@ -121,23 +122,23 @@ pub fn year_span(year: u32) -> Span
 // ---- The day of a label
 
 // One that is skipped is refused 5, and one that is nowhere 4, with the day of the month.
-pub fn find(year: u32, month: u32, day: u32) -> Found
+pub fn find(year: u32, month: u32, day: u32) -> Result<Spot, Refusal>
     ensures { Finds year month day result }
 {
     if month < 1 {
-        return Found::Refused(refusal_with(4, day));
+        return Err(refusal_with(4, day));
     }
     if 12 < month {
-        return Found::Refused(refusal_with(4, day));
+        return Err(refusal_with(4, day));
     }
     if day < 1 {
-        return Found::Refused(refusal_with(4, day));
+        return Err(refusal_with(4, day));
     }
     let m = days_of(year, month);
     let biased = m.first + day as u64 - 1;
     if biased < m.past {
         let january = days_of(year, 1);
-        return Found::At(Spot {
+        return Ok(Spot {
             ordinal: (biased + 1 - january.first) as u32,
             biased: biased,
             year: year,
@@ -146,7 +147,7 @@ pub fn find(year: u32, month: u32, day: u32) -> Found
         });
     }
     let number = refusal_number(year, month, day);
-    Found::Refused(refusal_with(number, day))
+    Err(refusal_with(number, day))
 }
 
 // Of a label that no day bears: 29 February 1700 and 18 to 28 February 1753 are skipped.

@@ -1,6 +1,6 @@
 -- From the arithmetic of a label, of a year and of a month to what is said of them.
 -- Assumes nothing.
-use Rattle.std.specs.Prelude.{◌≡◌, Bool, true, ℕ, ◌+◌, ◌-◌, ◌/◌, ◌<◌, ◌≤◌, T, ltb, leb, pos}
+use Rattle.std.specs.Prelude.{◌≡◌, Bool, true, ℕ, ◌+◌, ◌-◌, ◌/◌, ◌<◌, ◌≤◌, T, ltb, leb, pos, Ok, Err, Some, None}
 use Rattle.std.proofs.Common.{sym, ◌∙◌, ap, ap₂, subst, arith, add-one, ltb→lt, leb→le}
 use Rattle.refusals.specs.Promise.{refusal}
 use Rattle.days.specs.DayByDay as D
@@ -18,15 +18,11 @@ use Rattle.inner.specs.Natural.{biased_year_value}
 use Rattle.monthdays.specs.Promise.{OrdinalOf, ordinal, no_ordinal}
 use Rattle.monthdays.specs.One.{in_year_ordinal}
 use Rattle.monthdays.specs.Laws.{in_year_valid, in_year_month}
-use Rattle.monthdays.specs.declared.DayOrdinal.TheVariants as DayOrdinal'
 use Rattle.switches.specs.declared.PlainYear.{PlainYear}
 use Rattle.switches.specs.declared.MonthSpan.{MonthSpan}
-use Rattle.switches.specs.declared.Spanned.TheVariants as Spanned'
 use Rattle.switches.specs.declared.PlainMonth.{PlainMonth}
 use Rattle.inner.specs.declared.Spot as S
 use Rattle.inner.specs.Spots.{At, spot, at_number}
-use Rattle.switches.specs.declared.Found.TheVariants as Found'
-use Rattle.switches.specs.declared.Read.TheVariants as Read'
 use Rattle.switches.specs.declared.Below.TheVariants as Below'
 use Rattle.switches.specs.Promise.{YearSpan, YearIn, begins_old, begins_new, month_span, SpansMonth, spans_month, NoneBelow, NotOver, Finds, finds_old, finds_new, finds_gap, finds_none, RefusesNonGregorian, taken_away, never_there}
 use Rattle.switches.specs.Private.{MonthIn, Reads, reads_at, reads_none, ReadsBelow, below_at, below_none, below_later}
@@ -54,32 +50,32 @@ module _ (leap_at : ℕ → Bool) (start : ℕ → ℕ) (y m d : ℕ) {b : Bool}
   read_none n t = n (t.0, t.1, t.2, subst (λ (b : Bool). d ≤ month_length b m) (sym e) t.3)
 
 -- what the Julian calendar does not have the Gregorian one does not have either, and no day bears it
-pub julian_none : {r : ℕ} (y : ℕ) {m d : ℕ} → ¬ There J.leap_at (biased_year_value y) m d → Finds r y m d (Found'.Refused (refusal 4 0 (pos d)))
+pub julian_none : {r : ℕ} (y : ℕ) {m d : ℕ} → ¬ There J.leap_at (biased_year_value y) m d → Finds r y m d (Err (refusal 4 0 (pos d)))
 julian_none y {m} {d} n = finds_none (λ t. n (there_too (biased_year_value y) m d t)) (λ t. absurd (n t)) (λ t. absurd (n t))
 
 module _ {r y m d t : ℕ} {b : Bool} (h : BiasedYear (biased_year_value y)) where
   -- in the Julian reckoning
-  pub below_found : {s : S.Spot} → b ≡ J.leap_at (biased_year_value y) → t ≡ J.start (biased_year_value y) → Reads b t y m d (Read'.At s) → s.biased < r → ReadsBelow r y m d (Below'.At s)
+  pub below_found : {s : S.Spot} → b ≡ J.leap_at (biased_year_value y) → t ≡ J.start (biased_year_value y) → Reads b t y m d (Some s) → s.biased < r → ReadsBelow r y m d (Below'.At s)
   below_found e f (reads_at v q) g = below_at g (read_at J.leap_at J.start y m d h e f v q)
 
-  pub below_late : {s : S.Spot} → b ≡ J.leap_at (biased_year_value y) → t ≡ J.start (biased_year_value y) → Reads b t y m d (Read'.At s) → r ≤ s.biased → ReadsBelow r y m d Below'.Later
+  pub below_late : {s : S.Spot} → b ≡ J.leap_at (biased_year_value y) → t ≡ J.start (biased_year_value y) → Reads b t y m d (Some s) → r ≤ s.biased → ReadsBelow r y m d Below'.Later
   below_late e f (reads_at v q) g = below_later (λ i. subst (λ (n : ℕ). r ≤ n) (sym (at_number (read_at J.leap_at J.start y m d h e f v q))) g)
 
-  pub below_not : b ≡ J.leap_at (biased_year_value y) → t ≡ J.start (biased_year_value y) → Reads b t y m d Read'.Nothing → ReadsBelow r y m d Below'.Nothing
+  pub below_not : b ≡ J.leap_at (biased_year_value y) → t ≡ J.start (biased_year_value y) → Reads b t y m d None → ReadsBelow r y m d Below'.Nothing
   below_not e f (reads_none n) = below_none (read_none J.leap_at J.start y m d h e f n)
 
   -- in the calendar, from r on
   module _ (e : b ≡ G.leap_at (biased_year_value y)) (f : t ≡ G.start (biased_year_value y)) (n : NoneBelow r y m d) where
-    pub new_found : {s : S.Spot} → Reads b t y m d (Read'.At s) → r ≤ s.biased → Finds r y m d (Found'.At s)
+    pub new_found : {s : S.Spot} → Reads b t y m d (Some s) → r ≤ s.biased → Finds r y m d (Ok s)
     new_found (reads_at v q) g = finds_new g (read_at G.leap_at G.start y m d h e f v q) n
 
-    pub gap_found : {s : S.Spot} → Reads b t y m d (Read'.At s) → s.biased < r → Finds r y m d (Found'.Refused (refusal 5 0 (pos d)))
+    pub gap_found : {s : S.Spot} → Reads b t y m d (Some s) → s.biased < r → Finds r y m d (Err (refusal 5 0 (pos d)))
     gap_found (reads_at v q) g =
         let a = read_at G.leap_at G.start y m d h e f v q in
         let i : There J.leap_at (biased_year_value y) m d = there_too (biased_year_value y) m d a.there in
         finds_gap i (n i) (day_before a.there (subst (λ (n : ℕ). n < r) (sym (at_number a)) g))
 
-    pub none_found : {k : ℕ} → Reads b t y m d Read'.Nothing → RefusesNonGregorian r y m d k → Finds r y m d (Found'.Refused (refusal k 0 (pos d)))
+    pub none_found : {k : ℕ} → Reads b t y m d None → RefusesNonGregorian r y m d k → Finds r y m d (Err (refusal k 0 (pos d)))
     none_found (reads_none x) (taken_away i g) = finds_gap i (n i) (month_over g)
     none_found (reads_none x) (never_there g) = finds_none (read_none G.leap_at G.start y m d h e f x) n g
 
@@ -91,10 +87,10 @@ below_year {r} {y} {m} {d} f g = below_later (λ i. after (days_before_value (J.
     after k g i = omega arith
 
 -- what is below r says of the calendar
-pub old_found : {r y m d : ℕ} {s : S.Spot} → ReadsBelow r y m d (Below'.At s) → Finds r y m d (Found'.At s)
+pub old_found : {r y m d : ℕ} {s : S.Spot} → ReadsBelow r y m d (Below'.At s) → Finds r y m d (Ok s)
 old_found (below_at g a) = finds_old g a
 
-pub neither_found : {r m d : ℕ} (y : ℕ) → ReadsBelow r y m d Below'.Nothing → Finds r y m d (Found'.Refused (refusal 4 0 (pos d)))
+pub neither_found : {r m d : ℕ} (y : ℕ) → ReadsBelow r y m d Below'.Nothing → Finds r y m d (Err (refusal 4 0 (pos d)))
 neither_found y (below_none n) = julian_none y n
 
 pub later_none : {r y m d : ℕ} → ReadsBelow r y m d Below'.Later → NoneBelow r y m d
@@ -180,29 +176,29 @@ wholly_days {r} y (wholly_new g h) = days (G.start y) (year_length (G.leap_at y)
     later s n e h = omega arith
 
 -- ---- A reading from the ordinal of a month and a day
-pub ordinal_some : {leap : Bool} {m d o : ℕ} → OrdinalOf leap m d (DayOrdinal'.At o) → 1 ≤ o
+pub ordinal_some : {leap : Bool} {m d o : ℕ} → OrdinalOf leap m d (Some o) → 1 ≤ o
 ordinal_some (ordinal p) = p.from
 
-pub ordinal_sum : {leap : Bool} {m d o : ℕ} → OrdinalOf leap m d (DayOrdinal'.At o) → ThereIn leap m d × (days_before_value leap m + d ≡ o)
+pub ordinal_sum : {leap : Bool} {m d o : ℕ} → OrdinalOf leap m d (Some o) → ThereIn leap m d × (days_before_value leap m + d ≡ o)
 ordinal_sum {leap} {m} {d} (ordinal p) =
     let (v, f, t) = in_year_valid leap p in
     ((v.0, v.1, f, t), in_year_ordinal (in_year_month leap m d v f t) p)
 
-pub reading_at : {leap : Bool} {t y m d o : ℕ} → OrdinalOf leap m d (DayOrdinal'.At o) → Reads leap t y m d (Read'.At (spot (t + o - 1) y o m d))
+pub reading_at : {leap : Bool} {t y m d o : ℕ} → OrdinalOf leap m d (Some o) → Reads leap t y m d (Some (spot (t + o - 1) y o m d))
 reading_at p = let (v, e) = ordinal_sum p in reads_at v e
 
-pub ordinal_none : {leap : Bool} {m d : ℕ} → OrdinalOf leap m d DayOrdinal'.Nothing → ¬ ThereIn leap m d
+pub ordinal_none : {leap : Bool} {m d : ℕ} → OrdinalOf leap m d None → ¬ ThereIn leap m d
 ordinal_none {leap} {m} {d} (no_ordinal n) v = n (days_before_value leap m + d) (in_year_month leap m d (v.0, v.1) v.2 v.3)
 
-pub reading_none : {leap : Bool} {t y m d : ℕ} → OrdinalOf leap m d DayOrdinal'.Nothing → Reads leap t y m d Read'.Nothing
+pub reading_none : {leap : Bool} {t y m d : ℕ} → OrdinalOf leap m d None → Reads leap t y m d None
 reading_none n = reads_none (ordinal_none n)
 
 -- ---- The days of a month
-pub month_has_first : {leap : Bool} {m : ℕ} → Month m → OrdinalOf leap m 1 DayOrdinal'.Nothing → ⊥
+pub month_has_first : {leap : Bool} {m : ℕ} → Month m → OrdinalOf leap m 1 None → ⊥
 month_has_first {leap} {m} v (no_ordinal n) = n (days_before_value leap m + 1) (in_year_month leap m 1 v (omega arith) (month_some leap m v.0 v.1))
 
 -- in one reckoning
-pub month_in_is : {leap : Bool} {t m n o : ℕ} → n ≡ month_length leap m → OrdinalOf leap m 1 (DayOrdinal'.At o) → MonthIn leap t m (record { first = t + o - 1; days = n })
+pub month_in_is : {leap : Bool} {t m n o : ℕ} → n ≡ month_length leap m → OrdinalOf leap m 1 (Some o) → MonthIn leap t m (record { first = t + o - 1; days = n })
 month_in_is {leap} {t} {m} {o = o} e p = record { first_is = sum (days_before_value leap m) (ordinal_sum p).1; days_is = e }
   where
     sum : (b : ℕ) → b + 1 ≡ o → t + o - 1 ≡ t + b
@@ -217,22 +213,22 @@ module _ (leap_at : ℕ → Bool) (start : ℕ → ℕ) (y : ℕ) {m t : ℕ} {b
 
 -- in the calendar, as they are computed
 pub month_span_is : (r y m : ℕ) {j g j' g' a b : ℕ} → Month m → j ≡ julian_month_value y m → g ≡ gregorian_month y m → j' ≡ julian_month_value y m + month_length (J.leap_at y) m → g' ≡ gregorian_month y m + month_length (G.leap_at y) m
-    → a ≡ first_day_value r j g → b ≡ first_day_value r j' g' → SpansMonth r y m (Spanned'.Month (record { switch = r; first = a; past = b; gregorian = g }))
+    → a ≡ first_day_value r j g → b ≡ first_day_value r j' g' → SpansMonth r y m (Ok (record { switch = r; first = a; past = b; gregorian = g }))
 month_span_is r y m {g = g} {a = a} {b} v e f h i p q =
     let first : a ≡ month_first_value r y m = p ∙ ap₂ (first_day_value r) e f in
     let past : b ≡ month_past r y m = q ∙ ap₂ (first_day_value r) h i in
     let same : record { switch = r; first = a; past = b; gregorian = g } ≡ month_span r y m = cc in
-    subst (λ (s : MonthSpan). SpansMonth r y m (Spanned'.Month s)) (sym same) (spans_month v)
+    subst (λ (s : MonthSpan). SpansMonth r y m (Ok s)) (sym same) (spans_month v)
 
 -- ---- A label that the Gregorian calendar does not have
 pub non_gregorian_year : {r m d t : ℕ} (y : ℕ) → t ≡ G.start (biased_year_value y) → r ≤ t → RefusesNonGregorian r y m d 4
 non_gregorian_year {r} {m} {d} y f g = never_there (not_over (biased_year_value y) m d (subst (λ (n : ℕ). r ≤ n) f g))
 
-pub non_julian : {r m d : ℕ} (y : ℕ) {b : Bool} → b ≡ J.leap_at (biased_year_value y) → OrdinalOf b m d DayOrdinal'.Nothing → RefusesNonGregorian r y m d 4
+pub non_julian : {r m d : ℕ} (y : ℕ) {b : Bool} → b ≡ J.leap_at (biased_year_value y) → OrdinalOf b m d None → RefusesNonGregorian r y m d 4
 non_julian {m = m} {d} y e n = never_there (λ v. absurd (ordinal_none n (subst (λ (b : Bool). ThereIn b m d) (sym e) v)))
 
 module _ {r m d t o : ℕ} (y : ℕ) {b c : Bool} {p : PlainMonth} (e : b ≡ J.leap_at (biased_year_value y)) (i : c ≡ G.leap_at (biased_year_value y)) (f : t ≡ G.start (biased_year_value y))
-    (a : OrdinalOf b m d (DayOrdinal'.At o)) (q : MonthIn c t m p) where
+    (a : OrdinalOf b m d (Some o)) (q : MonthIn c t m p) where
   pub over_by_then : p.first + p.days ≤ r → RefusesNonGregorian r y m d 5
   over_by_then g = taken_away (subst (λ (b : Bool). ThereIn b m d) e (ordinal_sum a).0) (subst (λ (n : ℕ). n ≤ r) (plain_past G.leap_at G.start (biased_year_value y) i f q) g)
 

@@ -1,6 +1,6 @@
 -- A promise allows one answer, whatever the day on which the calendar switches.
 -- Assumes nothing.
-use Rattle.std.specs.Prelude.{◌≡◌, refl, Bool, ℕ, ◌+◌, ◌-◌, ◌≤◌, ◌<◌, ℤ}
+use Rattle.std.specs.Prelude.{◌≡◌, refl, Bool, ℕ, ◌+◌, ◌-◌, ◌≤◌, ◌<◌, ℤ, Result, Ok}
 use Rattle.std.proofs.Common.{sym, ◌∙◌, ap, arith}
 use Rattle.whole.specs.Biased.{unbias_injective}
 use Rattle.days.specs.BiasedDays.{day_bias}
@@ -12,13 +12,12 @@ use Rattle.days.specs.ReformationRules.{Outcome, accepted, refused_1, refused_2,
 use Rattle.days.proofs.ReformationTable.{judged_one}
 use Rattle.inner.specs.Natural.{biased_year_value}
 use Rattle.switches.specs.declared.PlainYear.{PlainYear}
-use Rattle.switches.specs.declared.Spanned.{Spanned}
-use Rattle.switches.specs.declared.Found.{Found}
-use Rattle.switches.specs.declared.Found.TheVariants as Found'
-use Rattle.switches.specs.declared.reformation.Judgement.{Judgement}
-use Rattle.switches.specs.declared.reformation.Judgement.TheVariants.{Accepted}
 use Rattle.inner.specs.Spots.{At, spot, at_number}
 use Rattle.switches.specs.Promise.{YearSpan, YearIn, begins_old, begins_new, SpansMonth, spans_month, no_month, NoneBelow, NotOver, Finds, finds_old, finds_new, finds_gap, finds_none, RefusesNonGregorian, taken_away, never_there, Judges, accepts_biased, refuses_with_1, refuses_with_2}
+use Rattle.refusals.specs.declared.Refusal.{Refusal}
+use Rattle.switches.specs.declared.MonthSpan.{MonthSpan}
+use Rattle.inner.specs.declared.Spot.{Spot}
+use Rattle.switches.specs.declared.reformation.ReformingError.{ReformingError}
 
 pub year_span_one : (r y : ℕ) {a b i j : ℕ} → YearSpan r y a b → YearSpan r y i j → (a ≡ i) × (b ≡ j)
 year_span_one r y s t = (s.first_is ∙ sym t.first_is, s.past_is ∙ sym t.past_is)
@@ -32,7 +31,7 @@ year_in_one r y p q (begins_old g) (begins_new h) = absurd (not_both (J.start y)
 year_in_one r y p q (begins_new g) (begins_old h) = absurd (not_both (J.start y) h g)
 year_in_one r y p q (begins_new g) (begins_new h) = refl
 
-pub spans_month_one : (r y m : ℕ) (a b : Spanned) → SpansMonth r y m a → SpansMonth r y m b → a ≡ b
+pub spans_month_one : (r y m : ℕ) (a b : Result MonthSpan Refusal) → SpansMonth r y m a → SpansMonth r y m b → a ≡ b
 spans_month_one r y m a b (spans_month v) (spans_month w) = refl
 spans_month_one r y m a b (spans_month v) (no_month n) = absurd (n v)
 spans_month_one r y m a b (no_month n) (spans_month v) = absurd (n v)
@@ -69,13 +68,13 @@ not_over_yet : (y : ℕ) {r m d : ℕ} → ¬ There G.leap_at (biased_year_value
 not_over_yet y n i t (day_before u h) = n u
 not_over_yet y {r} n i t (month_over h) = not_both r (i t) h
 
-pub finds_one : (r y m d : ℕ) (a b : Found) → Finds r y m d a → Finds r y m d b → a ≡ b
-finds_one r y m d a b (finds_old g s) (finds_old h t) = ap Found'.At (same_spot y s t)
+pub finds_one : (r y m d : ℕ) (a b : Result Spot Refusal) → Finds r y m d a → Finds r y m d b → a ≡ b
+finds_one r y m d a b (finds_old g s) (finds_old h t) = ap Ok (same_spot y s t)
 finds_one r y m d a b (finds_old g s) (finds_new h t n) = absurd (not_below y g s n)
 finds_one r y m d a b (finds_old g s) (finds_gap t n h) = absurd (not_below y g s (λ i. n))
 finds_one r y m d a b (finds_old g s) (finds_none t n h) = absurd (not_below y g s n)
 finds_one r y m d a b (finds_new g s n) (finds_old h t) = absurd (not_below y h t n)
-finds_one r y m d a b (finds_new g s n) (finds_new h t k) = ap Found'.At (same_spot y s t)
+finds_one r y m d a b (finds_new g s n) (finds_new h t k) = ap Ok (same_spot y s t)
 finds_one r y m d a b (finds_new g s n) (finds_gap t i h) = absurd (not_in_gap y g s h)
 finds_one r y m d a b (finds_new g s n) (finds_none t i h) = absurd (t s.there)
 finds_one r y m d a b (finds_gap s n g) (finds_old h t) = absurd (not_below y h t (λ i. n))
@@ -103,8 +102,8 @@ rank refused_2 = 2
 pub apart : {r : ℤ} {o p : Outcome} → Judged r o → Judged r p → rank o ≡ rank p
 apart a b = ap rank (judged_one a b)
 
-pub judges_one : (r : ℤ) (a b : Judgement) → Judges r a → Judges r b → a ≡ b
-judges_one r a b (accepts_biased {k} x e) (accepts_biased {k = l} y f) = ap Accepted (unbias_injective day_bias k l (e ∙ sym f))
+pub judges_one : (r : ℤ) (a b : Result ℕ ReformingError) → Judges r a → Judges r b → a ≡ b
+judges_one r a b (accepts_biased {k} x e) (accepts_biased {k = l} y f) = ap Ok (unbias_injective day_bias k l (e ∙ sym f))
 judges_one r a b (accepts_biased x e) (refuses_with_1 y) = absurd (omega (arith, apart x y))
 judges_one r a b (accepts_biased x e) (refuses_with_2 y) = absurd (omega (arith, apart x y))
 judges_one r a b (refuses_with_1 x) (accepts_biased y f) = absurd (omega (arith, apart x y))

@@ -1,17 +1,16 @@
 -- What the private functions say: a month in one reckoning, and the day of a label there.
 -- Assumes nothing.
-use Rattle.std.specs.Prelude.{◌≡◌, Bool, ℕ, ◌+◌, ◌-◌, ◌<◌}
+use Rattle.std.specs.Prelude.{◌≡◌, Bool, ℕ, ◌+◌, ◌-◌, ◌<◌, Option, Some, None}
 use Rattle.days.specs.DayByDay.{month_length}
 use Rattle.days.specs.ClosedJulian as J
 use Rattle.days.specs.ClosedNumbers.{ThereIn, There, days_before_value}
 use Rattle.inner.specs.Natural.{biased_year_value}
 use Rattle.inner.specs.Spots.{At, spot}
 use Rattle.switches.specs.declared.PlainMonth.{PlainMonth}
-use Rattle.switches.specs.declared.Read.{Read}
-use Rattle.switches.specs.declared.Read.TheVariants as Read'
 use Rattle.switches.specs.declared.Below.{Below}
 use Rattle.switches.specs.declared.Below.TheVariants as Below'
 use Rattle.switches.specs.Promise.{NoneBelow}
+use Rattle.inner.specs.declared.Spot.{Spot}
 
 -- a month of a year that starts on a biased day, and is leap or not
 pub record MonthIn (leap : Bool) (start m : ℕ) (p : PlainMonth) : Type 0 where
@@ -19,9 +18,9 @@ pub record MonthIn (leap : Bool) (start m : ℕ) (p : PlainMonth) : Type 0 where
   pub days_is : p.days ≡ month_length leap m
 
 -- the day of a label in a year that starts on a biased day, and is leap or not
-pub data Reads (leap : Bool) (start y m d : ℕ) : Read → Type 0 where
-  reads_at : {o : ℕ} → ThereIn leap m d → days_before_value leap m + d ≡ o → Reads leap start y m d (Read'.At (spot (start + o - 1) y o m d))
-  reads_none : ¬ ThereIn leap m d → Reads leap start y m d Read'.Nothing
+pub data Reads (leap : Bool) (start y m d : ℕ) : Option Spot → Type 0 where
+  reads_at : {o : ℕ} → ThereIn leap m d → days_before_value leap m + d ≡ o → Reads leap start y m d (Some (spot (start + o - 1) y o m d))
+  reads_none : ¬ ThereIn leap m d → Reads leap start y m d None
 
 -- in the Julian reckoning, where that is before day r; or that this reckoning does not have the label; or that it is to be looked for from r on
 pub data ReadsBelow (r y m d : ℕ) : Below → Type 0 where

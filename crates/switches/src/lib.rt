@@ -13,7 +13,6 @@ ghost use Rattle.switches.specs.Private.{Reads, ReadsBelow, MonthIn};
 ghost use Rattle.switches.specs.Promise.{NoneBelow, Finds, RefusesNonGregorian, YearSpan, YearIn, SpansMonth};
 
 use inner::Spot;
-use monthdays::DayOrdinal;
 use refusals::{Refusal, refusal_with};
 
 // ---- The days of a year
@@ -91,22 +90,16 @@ pub struct MonthSpan {
     pub gregorian: u64,
 }
 
-#[derive(Clone, Copy)]
-pub enum Spanned {
-    Month(MonthSpan),
-    Refused(Refusal),
-}
-
 // A month that is not from 1 to 12 is refused 3.
 #[tactic(auto, using(crate::proofs::Months::refused_past_12))]
-pub fn month_span(switch: u64, year: u32, month: u32) -> Spanned
+pub fn month_span(switch: u64, year: u32, month: u32) -> Result<MonthSpan, Refusal>
     ensures { SpansMonth switch (biased_year_value year) month result }
 {
     if month < 1 {
-        return Spanned::Refused(refusal_with(3, month));
+        return Err(refusal_with(3, month));
     }
     if 12 < month {
-        return Spanned::Refused(refusal_with(3, month));
+        return Err(refusal_with(3, month));
     }
     let old = month_in(
         inner::is_julian_leap(year),
@@ -118,7 +111,7 @@ pub fn month_span(switch: u64, year: u32, month: u32) -> Spanned
         inner::gregorian_start(year),
         month,
     );
-    Spanned::Month(MonthSpan {
+    Ok(MonthSpan {
         switch: switch,
         first: first_day(switch, old.first, new.first),
         past: first_day(
@@ -144,11 +137,11 @@ fn month_in(leap: bool, start: u64, month: u32) -> PlainMonth
 {
     let days = monthdays::days_in_month(leap, month);
     match monthdays::md2ordinal(leap, month, 1) {
-        DayOrdinal::At(ordinal) => PlainMonth {
+        Some(ordinal) => PlainMonth {
             first: start + ordinal as u64 - 1,
             days: days,
         },
-        DayOrdinal::Nothing => PlainMonth {
+        None => PlainMonth {
             first: start,
             days: days,
         },
@@ -157,20 +150,14 @@ fn month_in(leap: bool, start: u64, month: u32) -> PlainMonth
 
 // ---- The day of a label
 
-#[derive(Clone, Copy)]
-pub enum Found {
-    At(Spot),
-    Refused(Refusal),
-}
-
 // A label is on its Julian day where that is before the switch, and on its Gregorian day where that is not before it. One that is skipped is
 // refused 5, and one that is nowhere 4, with the day of the month. What the Julian calendar does not have the Gregorian one does not have either.
-pub fn find(switch: u64, year: u32, month: u32, day: u32) -> Found
+pub fn find(switch: u64, year: u32, month: u32, day: u32) -> Result<Spot, Refusal>
     ensures { Finds switch year month day result }
 {
     match julian_below(switch, year, month, day) {
-        Below::At(s) => Found::At(s),
-        Below::Nothing => Found::Refused(refusal_with(4, day)),
+        Below::At(s) => Ok(s),
+        Below::Nothing => Err(refusal_with(4, day)),
         Below::Later => find_later(switch, year, month, day),
     }
 }
@@ -192,8 +179,8 @@ fn julian_below(switch: u64, year: u32, month: u32, day: u32) -> Below
         return Below::Later;
     }
     match reading(inner::is_julian_leap(year), start, year, month, day) {
-        Read::Nothing => Below::Nothing,
-        Read::At(s) => {
+        None => Below::Nothing,
+        Some(s) => {
             if s.biased < switch {
                 return Below::At(s);
             }
@@ -203,21 +190,21 @@ fn julian_below(switch: u64, year: u32, month: u32, day: u32) -> Below
 }
 
 // From the switch on.
-fn find_later(switch: u64, year: u32, month: u32, day: u32) -> Found
+fn find_later(switch: u64, year: u32, month: u32, day: u32) -> Result<Spot, Refusal>
     requires { NoneBelow switch year month day }
     ensures { Finds switch year month day result }
 {
     let start = inner::gregorian_start(year);
     match reading(inner::is_gregorian_leap(year), start, year, month, day) {
-        Read::Nothing => {
+        None => {
             let number = non_gregorian_refusal(switch, year, month, day);
-            Found::Refused(refusal_with(number, day))
+            Err(refusal_with(number, day))
         }
-        Read::At(t) => {
+        Some(t) => {
             if switch <= t.biased {
-                return Found::At(t);
+                return Ok(t);
             }
-            Found::Refused(refusal_with(5, day))
+            Err(refusal_with(5, day))
         }
     }
 }
@@ -233,8 +220,8 @@ pub fn non_gregorian_refusal(switch: u64, year: u32, month: u32, day: u32) -> u3
         return 4;
     }
     match monthdays::md2ordinal(inner::is_julian_leap(year), month, day) {
-        DayOrdinal::Nothing => 4,
-        DayOrdinal::At(_) => {
+        None => 4,
+        Some(_) => {
             let new = month_in(inner::is_gregorian_leap(year), start, month);
             if new.first + new.days as u64 <= switch {
                 return 5;
@@ -244,20 +231,14 @@ pub fn non_gregorian_refusal(switch: u64, year: u32, month: u32, day: u32) -> u3
     }
 }
 
-#[derive(Clone, Copy)]
-enum Read {
-    At(Spot),
-    Nothing,
-}
-
 // The day of a label in a reckoning, by the first day of the year and whether that is leap.
-fn reading(leap: bool, start: u64, year: u32, month: u32, day: u32) -> Read
+fn reading(leap: bool, start: u64, year: u32, month: u32, day: u32) -> Option<Spot>
     requires { start < 2_000_000_000_000 }
     ensures { Reads leap start year month day result }
 {
     match monthdays::md2ordinal(leap, month, day) {
-        DayOrdinal::Nothing => Read::Nothing,
-        DayOrdinal::At(ordinal) => Read::At(Spot {
+        None => None,
+        Some(ordinal) => Some(Spot {
             biased: start + ordinal as u64 - 1,
             year: year,
             ordinal: ordinal,

@@ -1,6 +1,7 @@
 // On which days a calendar can switch from Julian to Gregorian dates, and why it cannot switch on any other.
 
-ghost use Rattle.switches.specs.Promise.{Judges};
+ghost use Rattle.std.specs.Prelude.{◌≡◌};
+ghost use Rattle.switches.specs.Promise.{Judges, number_of};
 
 // The table of reformations, as biased days. Day -2147483647 is the first with a day of 32 bits before it.
 const FIRST_AFTER_A_DAY: u64 = 782_219_326_295;
@@ -13,28 +14,41 @@ const FIRST_REFORMATION: u64 = 784_368_640_634;
 
 const LAST_REFORMATION: u64 = 786_514_249_530;
 
-// A day of reformation: accepted, with the number that it is biased as, or refused, with the number of the refusal.
+// Why no calendar can switch on a day, by the names that the crate has for it.
 #[derive(Clone, Copy)]
-pub enum Judgement {
-    Accepted(u64),
-    Refused(u32),
+pub enum ReformingError {
+    InvalidReformation,
+    Arithmetic,
 }
 
-pub fn judge(r: i32) -> Judgement
+impl ReformingError {
+    // The number of the refusal.
+    pub fn number(self) -> u32
+        ensures { result ≡ number_of self }
+    {
+        match self {
+            ReformingError::InvalidReformation => 1,
+            ReformingError::Arithmetic => 2,
+        }
+    }
+}
+
+// The number that a day of reformation is biased as.
+pub fn judge(r: i32) -> Result<u64, ReformingError>
     ensures { Judges r result }
 {
     let day = whole::raised(r) as u64 + inner::LEAST_DAY;
     if day < FIRST_AFTER_A_DAY {
-        return Judgement::Refused(1);
+        return Err(ReformingError::InvalidReformation);
     }
     if day < FIRST_TO_FIT {
-        return Judgement::Refused(2);
+        return Err(ReformingError::Arithmetic);
     }
     if day < FIRST_REFORMATION {
-        return Judgement::Refused(1);
+        return Err(ReformingError::InvalidReformation);
     }
     if LAST_REFORMATION < day {
-        return Judgement::Refused(2);
+        return Err(ReformingError::Arithmetic);
     }
-    Judgement::Accepted(day)
+    Ok(day)
 }

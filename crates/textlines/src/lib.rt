@@ -7,7 +7,6 @@
 ghost use Rattle.textlines.specs.Promise.{AddsToLine};
 
 use writer::buffer;
-use writer::buffer::Copied;
 
 // The longest line that is read.
 pub const LONGEST_READ: usize = 512;
@@ -20,7 +19,7 @@ pub fn add_to_line(line: &mut [u8; LONGEST_READ], held: usize, part: &[u8]) -> u
     ensures { AddsToLine line.old held part.now line.new result }
 {
     match buffer::copy_text(line, held, part) {
-        Copied::To(n) => n,
-        Copied::NoRoom => TOO_LONG,
+        Some(n) => n,
+        None => TOO_LONG,
     }
 }

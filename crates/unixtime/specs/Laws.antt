@@ -1,6 +1,6 @@
 -- From seconds that are biased as naturals, counted from the start of the lowest day, to the day of a time; and from that to the promises.
 -- Assumes nothing.
-use Rattle.std.specs.Prelude.{◌≡◌, ℕ, suc, ◌+◌, ◌-◌, ◌*◌, ◌/◌, ◌%◌, ◌<◌, ◌≤◌, ◌^◌, ℤ, pos, neg_ℤ, ◌+ℤ◌, ◌-ℤ◌, ◌*ℤ◌}
+use Rattle.std.specs.Prelude.{◌≡◌, ℕ, suc, ◌+◌, ◌-◌, ◌*◌, ◌/◌, ◌%◌, ◌<◌, ◌≤◌, ◌^◌, ℤ, pos, neg_ℤ, ◌+ℤ◌, ◌-ℤ◌, ◌*ℤ◌, Ok, Err, Some, None}
 use Rattle.std.proofs.Common.{sym, ◌∙◌, ap, subst, ⊎_elim, arith}
 use Rattle.whole.specs.Tests.{lt_or_ge}
 use Rattle.whole.specs.Biased.{unbias_add, unbias_below, unbias_above, unbias_injective}
@@ -8,17 +8,13 @@ use Rattle.whole.specs.Promise.{unbias}
 use Rattle.whole.specs.Machine.{Raised, rise, unbias_more, unbias_both}
 use Rattle.whole.specs.Edge.{unbias_fits}
 use Rattle.days.specs.DayByDay.{Is32Bit, UnixTime}
-use Rattle.unixtime.specs.declared.seconds.DaySecond.TheVariants as DaySecond'
 use Rattle.unixtime.specs.Promise.{On32BitDay, DaySecondOf, at, outside_32, day_time_of, refused_time, Unix2Jdn, timed_of, AtUnixTime}
 use Rattle.calendar.specs.declared.Calendar.{Calendar}
 use Rattle.calendar.specs.declared.Date.{Date}
-use Rattle.calendar.specs.declared.Dated.TheVariants as Dated'
 use Rattle.refusals.specs.declared.Refusal.{Refusal}
 use Rattle.calendar.specs.Calendars.{Accepted}
 use Rattle.calendar.specs.Rows.{refuses, passes}
 use Rattle.calendar.specs.Promise.{record_of, AtJdn}
-use Rattle.unixtime.specs.declared.DayTime.TheVariants as DayTime'
-use Rattle.unixtime.specs.declared.Timed.TheVariants as Timed'
 
 -- ---- Days to seconds
 
@@ -104,21 +100,21 @@ day_begins x e = record {
     around x = omega arith
 
 -- the day that holds a time, and the seconds
-pub day_second_at : {t n : ℤ} (x : ℕ) {s : ℕ} → x < 371_085_174_374_400 → unbias lowest x ≡ t → unbias (2 ^ 31) (x / 86_400) ≡ n → x % 86_400 ≡ s → DaySecondOf t (DaySecond'.At n s)
+pub day_second_at : {t n : ℤ} (x : ℕ) {s : ℕ} → x < 371_085_174_374_400 → unbias lowest x ≡ t → unbias (2 ^ 31) (x / 86_400) ≡ n → x % 86_400 ≡ s → DaySecondOf t (Some (n, s))
 day_second_at {t} x h e f g =
     at (subst Is32Bit f (time_fits x h)) (subst (UnixTime t _) g (subst (λ (n : ℤ). UnixTime t n (x % 86_400)) f (time_at x e)))
 
 -- ---- From the day of a time to the promises
 
-pub day_time_row : {t n : ℤ} {s : ℕ} → DaySecondOf t (DaySecond'.At n s) → Unix2Jdn t (DayTime'.At n s)
+pub day_time_row : {t n : ℤ} {s : ℕ} → DaySecondOf t (Some (n, s)) → Unix2Jdn t (Ok (n, s))
 day_time_row {n = n} {s} (at f u) = passes (record { on_day = n; seconds = s; day_fits = f; is_time = u }) (day_time_of u)
 
-pub no_day_row : {t u : ℤ} → u ≡ t → DaySecondOf t DaySecond'.Outside32 → Unix2Jdn t (refused_time u)
+pub no_day_row : {t u : ℤ} → u ≡ t → DaySecondOf t None → Unix2Jdn t (refused_time u)
 no_day_row {t} e (outside_32 n) = subst (λ (u : ℤ). Unix2Jdn t (refused_time u)) (sym e) (refuses n)
 
-pub timed_refused : (c : Calendar) {t : ℤ} {f : Refusal} → Accepted c → Unix2Jdn t (DayTime'.Refused f) → AtUnixTime c t (Timed'.Refused f)
+pub timed_refused : (c : Calendar) {t : ℤ} {f : Refusal} → Accepted c → Unix2Jdn t (Err f) → AtUnixTime c t (Err f)
 timed_refused c a (refuses x) = passes a (refuses x)
 timed_refused c a (passes _ none) = elim none [ ]
 
-pub timed_row : (c : Calendar) {t n : ℤ} {s : ℕ} {d : Date} → Accepted c → Unix2Jdn t (DayTime'.At n s) → AtJdn c n (Dated'.Date d) → AtUnixTime c t (Timed'.At d s)
+pub timed_row : (c : Calendar) {t n : ℤ} {s : ℕ} {d : Date} → Accepted c → Unix2Jdn t (Ok (n, s)) → AtJdn c n (Ok d) → AtUnixTime c t (Ok (d, s))
 timed_row c a (passes o (day_time_of u)) (passes b (record_of i)) = passes a (passes o (timed_of u i))

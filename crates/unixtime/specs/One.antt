@@ -1,13 +1,12 @@
 -- Two results that a promise allows for one input are equal: a theorem for each promise.
 -- Assumes nothing.
-use Rattle.std.specs.Prelude.{◌≡◌, refl, ℕ, suc, ◌+◌, ◌*◌, ◌<◌, ℤ, pos, ◌+ℤ◌, ◌-ℤ◌, ◌*ℤ◌}
+use Rattle.std.specs.Prelude.{◌≡◌, refl, ℕ, suc, ◌+◌, ◌*◌, ◌<◌, ℤ, pos, ◌+ℤ◌, ◌-ℤ◌, ◌*ℤ◌, Option}
 use Rattle.std.proofs.Common.{sym, ◌∙◌, ap, subst, arith}
 use Rattle.std.specs.Int.Signed.{mag}
 use Rattle.whole.specs.Biased.{unbias_injective}
 use Rattle.whole.specs.Promise.{unbias}
 use Rattle.whole.specs.Machine.{Raised, rise}
 use Rattle.days.specs.DayByDay.{Is32Bit, UnixTime}
-use Rattle.unixtime.specs.declared.seconds.DaySecond.{DaySecond}
 use Rattle.unixtime.specs.Promise.{On32BitDay, DaySecondOf, at, outside_32, DayTimeOf, day_time_of, Unix2Jdn, TimedOf, timed_of, AtUnixTime}
 use Rattle.unixtime.specs.Laws.{time_of}
 use Rattle.calendar.specs.declared.Calendar.{Calendar}
@@ -39,7 +38,7 @@ unix_time_one {t} {n} {m} {s} {r} p q = by (suc (mag n + mag m)) (rise (suc (mag
 biased_day_lem : {t n : ℤ} {s : ℕ} → Is32Bit n → UnixTime t n s → On32BitDay t
 biased_day_lem {n = n} {s} f u = record { on_day = n; seconds = s; day_fits = f; is_time = u }
 
-pub day_second_one : {t : ℤ} {a b : DaySecond} → DaySecondOf t a → DaySecondOf t b → a ≡ b
+pub day_second_one : {t : ℤ} {a b : Option (ℤ × ℕ)} → DaySecondOf t a → DaySecondOf t b → a ≡ b
 day_second_one (at f p) (at g q) = let e = unix_time_one p q in let i = e.same_day in let j = e.same_seconds in cc
 day_second_one (at f p) (outside_32 n) = absurd (n (biased_day_lem f p))
 day_second_one (outside_32 n) (at g q) = absurd (n (biased_day_lem g q))

@@ -1,16 +1,15 @@
 -- The times on days of 32 bits are -185753453990400 to 185331720383999. A day comes back from its first second.
 -- Assumes nothing.
 use Rattle.std.proofs.Common.{◌∙◌, ap, subst, arith, leb→le}
-use Rattle.std.specs.Prelude.{◌≡◌, suc, ◌+◌, ◌-◌, ◌≤◌, ℤ, pos, negsuc, ◌≤ℤ◌}
+use Rattle.std.specs.Prelude.{◌≡◌, suc, ◌+◌, ◌-◌, ◌≤◌, ℤ, pos, negsuc, ◌≤ℤ◌, Result, Ok, ℕ}
 use Rattle.whole.specs.Biased.{unbias_below, unbias_above}
 use Rattle.whole.specs.Integers.{unbias_le}
 use Rattle.unixtime.specs.Promise.{On32BitDay, day_time_of, Unix2Jdn}
 use Rattle.unixtime.specs.Laws.{lowest, BiasedTime, on_32_bit_day, on_32_bit_day_only}
 use Rattle.days.specs.DayByDay.{Is32Bit, UnixTime}
 use Rattle.calendar.specs.Rows.{passes}
-use Rattle.unixtime.specs.declared.DayTime.{DayTime}
-use Rattle.unixtime.specs.declared.DayTime.TheVariants as DayTime'
 use Rattle.unixtime.specs.One.{unix2jdn_one}
+use Rattle.refusals.specs.declared.Refusal.{Refusal}
 
 pub record InRange (t : ℤ) : Type 0 where
   pub from : negsuc 185_753_453_990_399 ≤ℤ t
@@ -33,5 +32,5 @@ in_range_accepted {t = negsuc n} r =
     let h : n ≤ 185_753_453_990_399 = leb→le n 185_753_453_990_399 r.from.le in
     on_32_bit_day (lowest - suc n) (omega arith) (unbias_below lowest (lowest - suc n) (omega arith) ∙ ap negsuc (omega arith))
 
-pub day_comes_back : {n t : ℤ} {a : DayTime} → Is32Bit n → UnixTime t n 0 → Unix2Jdn t a → a ≡ DayTime'.At n 0
-day_comes_back {n} {t} {a} f u p = unix2jdn_one t a (DayTime'.At n 0) p (passes (record { on_day = n; seconds = 0; day_fits = f; is_time = u }) (day_time_of u))
+pub day_comes_back : {n t : ℤ} {a : Result (ℤ × ℕ) Refusal} → Is32Bit n → UnixTime t n 0 → Unix2Jdn t a → a ≡ Ok (n, 0)
+day_comes_back {n} {t} {a} f u p = unix2jdn_one t a (Ok (n, 0)) p (passes (record { on_day = n; seconds = 0; day_fits = f; is_time = u }) (day_time_of u))

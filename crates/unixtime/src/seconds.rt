@@ -6,33 +6,26 @@ ghost use Rattle.unixtime.specs.Promise.{DaySecondOf};
 
 use whole::{lowered, lowered64, raised, raised64};
 
-// The number of a day, and the seconds into that day; or that 32 bits do not hold the number.
-#[derive(Clone, Copy)]
-pub enum DaySecond {
-    At(i32, u32),
-    Outside32,
-}
-
 // The lowest day begins 185753453990400 seconds before 1970; raised:
 const FIRST_SECOND: u64 = 9_223_186_283_400_785_408;
 
 // The days of 32 bits have one more.
 const LAST_ELAPSED: u64 = 371_085_174_374_399;
 
-pub fn day_second(t: i64) -> DaySecond
+pub fn day_second(t: i64) -> Option<(i32, u32)>
     ensures { DaySecondOf t result }
 {
     let raised_time = raised64(t);
     if raised_time < FIRST_SECOND {
-        return DaySecond::Outside32;
+        return None;
     }
     let elapsed = raised_time - FIRST_SECOND;
     if LAST_ELAPSED < elapsed {
-        return DaySecond::Outside32;
+        return None;
     }
     let day = (elapsed / 86_400) as u32;
     let seconds = (elapsed % 86_400) as u32;
-    DaySecond::At(lowered(day), seconds)
+    Some((lowered(day), seconds))
 }
 
 // The second at which a day begins.

@@ -1,14 +1,12 @@
 -- From the answers of the calendar, and from what a step does on day numbers, to the promises.
 -- Assumes nothing.
-use Rattle.std.specs.Prelude.{◌≡◌, refl, Bool, true, false, not, ℤ}
+use Rattle.std.specs.Prelude.{◌≡◌, refl, Bool, true, false, not, ℤ, Ok, Some}
 use Rattle.std.proofs.Common.{sym, subst}
 use Rattle.calendar.specs.declared.Calendar.{Calendar}
 use Rattle.calendar.specs.declared.Date.{Date}
-use Rattle.calendar.specs.declared.Dated.TheVariants as Dated'
 use Rattle.calendar.specs.Calendars.{IsRecord, Genuine}
 use Rattle.calendar.specs.Rows.{refuses, passes}
 use Rattle.calendar.specs.Promise.{record_of, AtJdn, Next}
-use Rattle.calendar.specs.declared.Near.TheVariants as Near'
 use Rattle.calendar.specs.InMonth.{NextInMonth, near_fits, near_next}
 use Rattle.days.specs.DayByDay.{Is32Bit}
 use Rattle.ways.specs.declared.Kind.{Kind}
@@ -24,7 +22,7 @@ use Rattle.walker.specs.Private.{Gave, gave}
 
 -- ---- Records
 -- the record that was given is that of the day
-pub is_given : {c : Calendar} {n : ℤ} {d : Date} → AtJdn c n (Dated'.Date d) → IsRecord c n d
+pub is_given : {c : Calendar} {n : ℤ} {d : Date} → AtJdn c n (Ok d) → IsRecord c n d
 is_given (passes b (record_of i)) = i
 
 -- ---- The rows of a step
@@ -54,20 +52,20 @@ not_ended true e = sym e
 not_ended false e = refl
 
 module _ (w : Walker) (s : w.ended ≡ false) {n : Date} where
-  found : NextInMonth (goes_later_value w.kind) w.date (Near'.Date n) → Genuine w.date × Is32Bit (toward w.kind w.date.jdn) × IsRecord w.date.calendar (toward w.kind w.date.jdn) n
-  found p = of_next (subst (λ (z : ℤ). Next w.date z (Dated'.Date n)) (ahead_is w.kind w.date.jdn) (near_next (goes_later_value w.kind) p))
+  found : NextInMonth (goes_later_value w.kind) w.date (Some n) → Genuine w.date × Is32Bit (toward w.kind w.date.jdn) × IsRecord w.date.calendar (toward w.kind w.date.jdn) n
+  found p = of_next (subst (λ (z : ℤ). Next w.date z (Ok n)) (ahead_is w.kind w.date.jdn) (near_next (goes_later_value w.kind) p))
     where
-      of_next : {z : ℤ} → Next w.date z (Dated'.Date n) → Genuine w.date × Is32Bit z × IsRecord w.date.calendar z n
+      of_next : {z : ℤ} → Next w.date z (Ok n) → Genuine w.date × Is32Bit z × IsRecord w.date.calendar z n
       of_next (passes g (passes f (record_of i))) = (g, f, i)
 
   -- the day that was held is given, or the next one
-  pub gives_first : gives_held_value w.kind ≡ true → NextInMonth (goes_later_value w.kind) w.date (Near'.Date n) → Steps w (moved (Dated'.Date w.date) (walker w.kind n false))
+  pub gives_first : gives_held_value w.kind ≡ true → NextInMonth (goes_later_value w.kind) w.date (Some n) → Steps w (moved (Ok w.date) (walker w.kind n false))
   gives_first e p =
       let (g, t, i) = found p in
       passes (record { date_genuine = g; flag_is = subst (FlagAt w.kind w.date.jdn) (sym s) (subst Is32Bit (sym (gives_held w.kind w.date.jdn e)) (near_fits (goes_later_value w.kind) p)) })
       (passes (not_both s) (held w.kind e g t i))
     where
-      held : (k : Kind) → gives_held_value k ≡ true → Genuine w.date → Is32Bit (toward k w.date.jdn) → IsRecord w.date.calendar (toward k w.date.jdn) n → Moves (walker k w.date w.ended) (moved (Dated'.Date w.date) (walker k n false))
+      held : (k : Kind) → gives_held_value k ≡ true → Genuine w.date → Is32Bit (toward k w.date.jdn) → IsRecord w.date.calendar (toward k w.date.jdn) n → Moves (walker k w.date w.ended) (moved (Ok w.date) (walker k n false))
       held Later e g t i = absurd (never e)
         where
           never : ◌≡◌ {A = Bool} false true → ⊥
@@ -79,13 +77,13 @@ module _ (w : Walker) (s : w.ended ≡ false) {n : Date} where
       held AndLater e g t i = moves g.is_record t i
       held AndEarlier e g t i = moves g.is_record t i
 
-  pub gives_next : {e : Bool} → gives_held_value w.kind ≡ false → EndedAt (toward w.kind n.jdn) e → NextInMonth (goes_later_value w.kind) w.date (Near'.Date n) → Steps w (moved (Dated'.Date n) (walker w.kind n e))
+  pub gives_next : {e : Bool} → gives_held_value w.kind ≡ false → EndedAt (toward w.kind n.jdn) e → NextInMonth (goes_later_value w.kind) w.date (Some n) → Steps w (moved (Ok n) (walker w.kind n e))
   gives_next {e} h l p =
       let (g, t, i) = found p in
       passes (record { date_genuine = g; flag_is = subst (FlagAt w.kind w.date.jdn) (sym s) (subst Is32Bit (sym (gives_ahead w.kind w.date.jdn h)) t) })
       (passes (not_both s) (ahead w.kind e h (subst (λ (z : ℤ). EndedAt (toward w.kind z) e) i.day_is l) i))
     where
-      ahead : (k : Kind) (e : Bool) → gives_held_value k ≡ false → EndedAt (toward k (toward k w.date.jdn)) e → IsRecord w.date.calendar (toward k w.date.jdn) n → Moves (walker k w.date w.ended) (moved (Dated'.Date n) (walker k n e))
+      ahead : (k : Kind) (e : Bool) → gives_held_value k ≡ false → EndedAt (toward k (toward k w.date.jdn)) e → IsRecord w.date.calendar (toward k w.date.jdn) n → Moves (walker k w.date w.ended) (moved (Ok n) (walker k n e))
       ahead Later true h l i = moves i l i
       ahead Later false h l i = moves i l i
       ahead Earlier true h l i = moves i l i

@@ -1,6 +1,6 @@
 -- What a walker gives over any number of calls, and which walkers are genuine: those that accepted calls give.
 -- Assumes nothing.
-use Rattle.std.specs.Prelude.{◌≡◌, refl, Bool, true, false, ℕ, zero, suc, ℤ, pos, negsuc, ◌+ℤ◌, ◌-ℤ◌, ◌<ℤ◌}
+use Rattle.std.specs.Prelude.{◌≡◌, refl, Bool, true, false, ℕ, zero, suc, ℤ, pos, negsuc, ◌+ℤ◌, ◌-ℤ◌, ◌<ℤ◌, Result, Ok}
 use Rattle.std.proofs.Common.{sym, ◌∙◌, ap, subst, ⊎_elim}
 use Rattle.std.proofs.Math.IntN.{suc_ℤ, pred_ℤ, +ℤ-suc_ℤ, +ℤ-pred_ℤ, +ℤ_one, -ℤ_one, suc-pred, suc_ℤ-+ℤ, pred_ℤ-+ℤ, +ℤ-neg_ℤ_cancel, -ℤ-+ℤ_cancel}
 use Rattle.std.specs.Int.Signed.{clash_ℤ}
@@ -9,19 +9,18 @@ use Rattle.whole.specs.Edge.{fits_from, fits_to, fits_between}
 use Rattle.days.specs.DayByDay.{Is32Bit}
 use Rattle.calendar.specs.declared.Calendar.{Calendar}
 use Rattle.calendar.specs.declared.Date.{Date}
-use Rattle.calendar.specs.declared.Dated.{Dated}
 use Rattle.calendar.specs.Calendars.{IsRecord, Genuine}
 use Rattle.calendar.specs.Rows.{refuses, passes, Unless}
 use Rattle.calendar.specs.Promise.{refused, RecordOf, record_of}
 use Rattle.ways.specs.declared.Kind.{Kind}
 use Rattle.ways.specs.declared.Kind.TheVariants.{Later, Earlier, AndLater, AndEarlier}
 use Rattle.walker.specs.declared.Walker.{Walker}
-use Rattle.walker.specs.declared.Walked.TheVariants as Walked'
 use Rattle.walker.specs.declared.Moved.{Moved}
 use Rattle.ways.specs.Promise.{toward, gives, holds, FlagAt}
 use Rattle.ways.specs.Laws.{not_both}
 use Rattle.walker.specs.Promise.{GenuineWalker, walker, made, Makes, moves, Steps}
 use Rattle.calendar.specs.Theorems.{record_genuine}
+use Rattle.refusals.specs.declared.Refusal.{Refusal}
 
 -- ---- Any number of calls
 
@@ -31,7 +30,7 @@ pub data Called (w : Walker) : ℕ → Walker → Type 0 where
   called : {i : ℕ} {v : Walker} → Called w i v → {m : Moved} → Steps v m → Called w (suc i) m.walker
 
 -- the answer of the i-th call, from 1
-pub data Answer (w : Walker) : ℕ → Dated → Type 0 where
+pub data Answer (w : Walker) : ℕ → Result Date Refusal → Type 0 where
   answer : {i : ℕ} {v : Walker} → Called w i v → {m : Moved} → Steps v m → Answer w (suc i) m.answer
 
 -- the day that the i-th call gives of a walker that is made from day n
@@ -42,7 +41,7 @@ day_of_call AndLater n i = n +ℤ pos i -ℤ pos 1
 day_of_call AndEarlier n i = n -ℤ pos i +ℤ pos 1
 
 -- its record; past the ends of 32 bits, refused 15
-abbrev pub GivesDay : Kind → Date → ℕ → Dated → Type 0
+abbrev pub GivesDay : Kind → Date → ℕ → Result Date Refusal → Type 0
 GivesDay k d i = Unless (Is32Bit (day_of_call k d.jdn i)) (refused 15 (pos 0)) (RecordOf d.calendar (day_of_call k d.jdn i))
 
 -- ---- Past an end of 32 bits
@@ -142,19 +141,19 @@ ended_first Earlier n f x = (x, pred_past n f x)
 ended_first AndLater n f x = absurd (x f)
 ended_first AndEarlier n f x = absurd (x f)
 
-state_made : (k : Kind) (d : Date) {w : Walker} → Is32Bit d.jdn → Makes k d (Walked'.Walker w) → State k d.calendar (day_of_call k d.jdn 1) w
+state_made : (k : Kind) (d : Date) {w : Walker} → Is32Bit d.jdn → Makes k d (Ok w) → State k d.calendar (day_of_call k d.jdn 1) w
 state_made k d {w} f (passes g (made {e = true} x)) =
     let (y, p) = ended_first k d.jdn f x in
     subst (λ (z : ℤ). State k d.calendar z (walker k d true)) (sym (call_first k d.jdn)) (spent g y p)
 state_made k d {w} f (passes g (made {e = false} x)) = subst (λ (z : ℤ). State k d.calendar z (walker k d false)) (sym (call_first k d.jdn)) (waits refl g x)
 
 -- From day n the i-th call gives the record of n + i, n - i, n + i - 1, n - i + 1; past the ends of 32 bits each call is refused 15.
-pub answer_of_call : (k : Kind) (d : Date) {w : Walker} → Is32Bit d.jdn → Makes k d (Walked'.Walker w) → {i : ℕ} {a : Dated} → Answer w i a → GivesDay k d i a
+pub answer_of_call : (k : Kind) (d : Date) {w : Walker} → Is32Bit d.jdn → Makes k d (Ok w) → {i : ℕ} {a : Result Date Refusal} → Answer w i a → GivesDay k d i a
 answer_of_call k d f m (answer p q) = given k d.calendar (state_after k d.calendar d.jdn (state_made k d f m) p) q
 
 -- ---- The genuine walkers are those that are made from a genuine date, and those that they become by steps
 pub data Given : Walker → Type 0 where
-  by_making : {k : Kind} {d : Date} {w : Walker} → Is32Bit d.jdn → Makes k d (Walked'.Walker w) → Given w
+  by_making : {k : Kind} {d : Date} {w : Walker} → Is32Bit d.jdn → Makes k d (Ok w) → Given w
   by_step : {v : Walker} → Given v → {m : Moved} → Steps v m → Given m.walker
 
 state_genuine : (k : Kind) (c : Calendar) {g : ℤ} {v : Walker} → State k c g v → GenuineWalker v

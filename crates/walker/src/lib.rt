@@ -10,7 +10,7 @@ ghost use Rattle.ways.specs.declared.Kind.TheVariants as Kind';
 ghost use Rattle.walker.specs.Promise.{Makes, Steps, unmoved, moved};
 ghost use Rattle.walker.specs.Private.{Gave};
 
-use calendar::{Date, Dated, Near, Refusal, refusal_of};
+use calendar::{Date, Refusal, refusal_of};
 pub use ways::Kind;
 use ways::{Step, ended_when_made};
 
@@ -23,58 +23,52 @@ pub struct Walker {
 
 // ---- Answers
 
-#[derive(Clone, Copy)]
-pub enum Walked {
-    Walker(Walker),
-    Refused(Refusal),
-}
-
 // What a step gives, and the walker after it.
 #[derive(Clone, Copy)]
 pub struct Moved {
-    pub answer: Dated,
+    pub answer: Result<Date, Refusal>,
     pub walker: Walker,
 }
 
 // ---- Making a walker
 
-fn made(kind: Kind, date: Date) -> Walked
+fn made(kind: Kind, date: Date) -> Result<Walker, Refusal>
     ensures { Makes kind date result }
 {
     if date.is_genuine() {
         let ended = ended_when_made(kind, date.jdn);
-        return Walked::Walker(Walker {
+        return Ok(Walker {
             kind: kind,
             date: date,
             ended: ended,
         });
     }
-    Walked::Refused(refusal_of(16, 0))
+    Err(refusal_of(16, 0))
 }
 
 // The dates later than this one.
-pub fn later(date: Date) -> Walked
+pub fn later(date: Date) -> Result<Walker, Refusal>
     ensures { Makes Kind'.Later date result }
 {
     made(Kind::Later, date)
 }
 
 // The dates earlier than this one.
-pub fn earlier(date: Date) -> Walked
+pub fn earlier(date: Date) -> Result<Walker, Refusal>
     ensures { Makes Kind'.Earlier date result }
 {
     made(Kind::Earlier, date)
 }
 
 // This date, and the later ones.
-pub fn and_later(date: Date) -> Walked
+pub fn and_later(date: Date) -> Result<Walker, Refusal>
     ensures { Makes Kind'.AndLater date result }
 {
     made(Kind::AndLater, date)
 }
 
 // This date, and the earlier ones.
-pub fn and_earlier(date: Date) -> Walked
+pub fn and_earlier(date: Date) -> Result<Walker, Refusal>
     ensures { Makes Kind'.AndEarlier date result }
 {
     made(Kind::AndEarlier, date)
@@ -86,7 +80,7 @@ fn refused(number: u32, walker: Walker) -> Moved
     ensures { result ≡ unmoved number walker }
 {
     Moved {
-        answer: Dated::Refused(refusal_of(number, 0)),
+        answer: Err(refusal_of(number, 0)),
         walker: walker,
     }
 }
@@ -101,8 +95,8 @@ fn on_day(date: Date, jdn: i32) -> Date
     }
     let calendar = date.calendar;
     match calendar.at_jdn(jdn) {
-        Dated::Date(d) => d,
-        Dated::Refused(_) => date,
+        Ok(d) => d,
+        Err(_) => date,
     }
 }
 
@@ -114,7 +108,7 @@ fn gave(kind: Kind, date: Date, given: i32, held: i32, ended: bool) -> Moved
     let first = on_day(date, given);
     let after = on_day(first, held);
     Moved {
-        answer: Dated::Date(first),
+        answer: Ok(first),
         walker: Walker {
             kind: kind,
             date: after,
@@ -131,11 +125,11 @@ pub fn stepped(walker: Walker) -> Moved
         let kind = walker.kind;
         let date = walker.date;
         match calendar::next_in_month(date, ways::goes_later(kind)) {
-            Near::Other => {}
-            Near::Date(next) => {
+            None => {}
+            Some(next) => {
                 if ways::gives_held(kind) {
                     return Moved {
-                        answer: Dated::Date(date),
+                        answer: Ok(date),
                         walker: Walker {
                             kind: kind,
                             date: next,
@@ -144,7 +138,7 @@ pub fn stepped(walker: Walker) -> Moved
                     };
                 }
                 return Moved {
-                    answer: Dated::Date(next),
+                    answer: Ok(next),
                     walker: Walker {
                         kind: kind,
                         date: next,
@@ -175,7 +169,7 @@ fn any_step(walker: Walker) -> Moved
 }
 
 // The walker is lent, and moves one day.
-pub fn step(walker: &mut Walker) -> Dated
+pub fn step(walker: &mut Walker) -> Result<Date, Refusal>
     ensures { Steps walker.old (moved result walker.new) }
 {
     let m = stepped(*walker);

@@ -1,9 +1,8 @@
 -- Two answers that a promise allows for one input are equal.
 -- Assumes nothing.
-use Rattle.std.specs.Prelude.{◌≡◌, refl, Bool, true, false, ℕ, ℤ}
+use Rattle.std.specs.Prelude.{◌≡◌, refl, Bool, true, false, ℕ, ℤ, Option}
 use Rattle.whole.specs.One.{whether_one}
 use Rattle.days.specs.DayByDay.{Is32Bit}
-use Rattle.ways.specs.declared.Neighbour.{Neighbour}
 use Rattle.ways.specs.declared.Kind.{Kind}
 use Rattle.ways.specs.declared.Step.{Step}
 use Rattle.ways.specs.Promise.{IsNeighbour, there, nowhere, toward, beside, Inside, gives, EndedAt, IsStaying, NextStep, made_up, ended, goes}
@@ -14,7 +13,7 @@ ended_one n true false p q = absurd (p q)
 ended_one n false true p q = absurd (q p)
 ended_one n false false p q = refl
 
-pub neighbour_one : (n : ℤ) (a b : Neighbour) → IsNeighbour n a → IsNeighbour n b → a ≡ b
+pub neighbour_one : (n : ℤ) (a b : Option ℤ) → IsNeighbour n a → IsNeighbour n b → a ≡ b
 neighbour_one n a b (there f) (there g) = refl
 neighbour_one n a b (there f) (nowhere x) = absurd (x f)
 neighbour_one n a b (nowhere x) (there f) = absurd (x f)

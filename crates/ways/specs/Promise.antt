@@ -1,11 +1,9 @@
 -- What is promised of the ways of walkers, on whole numbers: which day lies ahead, which is given next, which is held then, and when a walker is ended.
 -- Assumes nothing.
-use Rattle.std.specs.Prelude.{Bool, true, false, ℕ, ◌≤◌, ℤ}
+use Rattle.std.specs.Prelude.{Bool, true, false, ℕ, ◌≤◌, ℤ, Option, Some, None}
 use Rattle.std.proofs.Math.IntN.{suc_ℤ, pred_ℤ}
 use Rattle.whole.specs.Whether.{Whether}
 use Rattle.days.specs.DayByDay.{Is32Bit}
-use Rattle.ways.specs.declared.Neighbour.{Neighbour}
-use Rattle.ways.specs.declared.Neighbour.TheVariants as Neighbour'
 use Rattle.ways.specs.declared.Kind.{Kind}
 use Rattle.ways.specs.declared.Kind.TheVariants.{Later, Earlier, AndLater, AndEarlier}
 use Rattle.ways.specs.declared.Step.{Step}
@@ -40,9 +38,9 @@ abbrev pub IsStaying : Bool → ℕ → ℤ → Bool → Type 0
 IsStaying l d n = Whether (Inside l d × Is32Bit (beside l n))
 
 -- day n, where 32 bits hold it
-pub data IsNeighbour (n : ℤ) : Neighbour → Type 0 where
-  there : Is32Bit n → IsNeighbour n (Neighbour'.Day n)
-  nowhere : ¬ Is32Bit n → IsNeighbour n Neighbour'.Nowhere
+pub data IsNeighbour (n : ℤ) : Option ℤ → Type 0 where
+  there : Is32Bit n → IsNeighbour n (Some n)
+  nowhere : ¬ Is32Bit n → IsNeighbour n None
 
 -- whether the day that a walker holds is the one that it gives next; else it is the one that it gave last, or was made from
 abbrev pub gives_held_value : Kind → Bool

@@ -75,21 +75,14 @@ fn ahead(kind: Kind, jdn: i32) -> i32
     lowered(raised(jdn) - 1)
 }
 
-// The day next to a day, or that 32 bits have none there.
-#[derive(Clone, Copy)]
-pub enum Neighbour {
-    Day(i32),
-    Nowhere,
-}
-
-pub fn day_ahead(kind: Kind, jdn: i32) -> Neighbour
+pub fn day_ahead(kind: Kind, jdn: i32) -> Option<i32>
     ensures { IsNeighbour (toward kind jdn) result }
 {
     if is_last(kind, jdn) {
-        return Neighbour::Nowhere;
+        return None;
     }
     let next = ahead(kind, jdn);
-    Neighbour::Day(next)
+    Some(next)
 }
 
 // ---- The next day of a month

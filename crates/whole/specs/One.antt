@@ -1,14 +1,14 @@
 -- A promise allows one result.
 -- Assumes nothing.
-use Rattle.std.specs.Prelude.{◌≡◌, refl, Bool, true, false, ℤ, pos, negsuc, ◌<ℤ◌}
+use Rattle.std.specs.Prelude.{◌≡◌, refl, Bool, true, false, ℤ, pos, negsuc, ◌<ℤ◌, Result}
 use Rattle.std.specs.Int.Signed.{clash_ℤ}
-use Rattle.whole.specs.declared.Narrowed.{Narrowed}
 use Rattle.whole.specs.Promise.{Narrows, fits, above, below}
 use Rattle.whole.specs.Whether.{Whether}
 use Rattle.whole.specs.Integers.{lt_trans}
 use Rattle.whole.specs.Edge.{fits_from, fits_to}
+use Rattle.whole.specs.declared.Outside.{Outside}
 
-pub narrows_one : {z : ℤ} {r s : Narrowed} → Narrows z r → Narrows z s → r ≡ s
+pub narrows_one : {z : ℤ} {r s : Result ℤ Outside} → Narrows z r → Narrows z s → r ≡ s
 narrows_one (fits f) (fits g) = refl
 narrows_one (fits f) (above g) = clash_ℤ g (fits_to f)
 narrows_one (fits f) (below g) = clash_ℤ g (fits_from f)

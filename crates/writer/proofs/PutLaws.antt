@@ -1,12 +1,11 @@
 -- Laws of what is put into a buffer, and of the loops that put it.
-use Rattle.std.specs.Prelude.{ℕ, suc, ◌+◌, ◌-◌, ◌≤◌, ◌<◌, ◌/◌, ◌%◌, ◌≡◌, refl, Bool, true, List, [], ◌∷◌, ◌++◌, length, get_or, take, drop, set, ℤ, nat_abs}
+use Rattle.std.specs.Prelude.{ℕ, suc, ◌+◌, ◌-◌, ◌≤◌, ◌<◌, ◌/◌, ◌%◌, ◌≡◌, refl, Bool, true, List, [], ◌∷◌, ◌++◌, length, get_or, take, drop, set, ℤ, nat_abs, Ok}
 use Rattle.std.proofs.Common.{sym, ◌∙◌, ap, ap₂, subst, append_assoc, add-zero, arith, length-set, length-append, length-take, length-drop, take-append-drop, drop-set-lt, drop-cons, get_or-set_same, take_at, take-suc, take_all, drop-drop, length-take-le}
 use Rattle.std.proofs.lemmas.List.{take-set-le}
 use Rattle.std.proofs.Math.Seq.{drop-append-add}
 use Rattle.writer.specs.Promise.{put, digits_of, Width, WriteYmd, whole_text}
 use Rattle.digits.specs.Numerals.{dash}
 use Rattle.whole.specs.Promise.{is_negative_value}
-use Rattle.writer.specs.declared.Written.{Written}
 use Rattle.writer.specs.Laws.{PutText, whole_width, length_digits, length_whole, ymd_text_value, wrote, text_is, size_is}
 
 -- ---- a buffer
@@ -158,5 +157,5 @@ module _ (neg : Bool) (ky n km m kd d : ℕ) {b b₁ b₂ b₃ : List ℕ} {i₁
 module _ (y : ℤ) (m d : ℕ) {neg : Bool} {n ky km kd w : ℕ} (e : neg ≡ is_negative_value y) (a : n ≡ nat_abs y) (wy : Width n ky) (wm : Width m km) (wd : Width d kd)
     (s : w ≡ whole_width neg ky) (b : List ℕ) where
   pub ymd_wrote : w + km + kd + 2 ≤ length b → {b₁ b₂ b₃ : List ℕ} {i₁ i₂ i₃ : ℕ}
-      → PutText b 0 (whole_text neg ky n) b₁ i₁ → PutText b₁ i₁ (whole_text true km m) b₂ i₂ → PutText b₂ i₂ (whole_text true kd d) b₃ i₃ → WriteYmd y m d b b₃ (Written.Done i₃)
+      → PutText b 0 (whole_text neg ky n) b₁ i₁ → PutText b₁ i₁ (whole_text true km m) b₂ i₂ → PutText b₂ i₂ (whole_text true kd d) b₃ i₃ → WriteYmd y m d b b₃ (Ok i₃)
   ymd_wrote h s₁ s₂ s₃ = wrote (text_is y m d e a wy wm wd s b) (omega (arith, size_is y m d e a wy wm wd s b)) (put_ymd neg ky n km m kd d (subst (λ (i : ℕ). i + km + kd + 2 ≤ length b) s h) s₁ s₂ s₃)

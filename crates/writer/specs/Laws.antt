@@ -1,16 +1,14 @@
 -- What the proofs need: of a buffer, of the digits of a number, and from both to the promises.
-use Rattle.std.specs.Prelude.{ℕ, suc, ◌+◌, ◌-◌, ◌≤◌, ◌<◌, zero, ◌*◌, ◌/◌, ◌%◌, ◌^◌, ◌≡◌, refl, false, Bool, true, List, [], ◌∷◌, ◌++◌, length, get_or, leb, ℤ, pos, negsuc, nat_abs}
+use Rattle.std.specs.Prelude.{ℕ, suc, ◌+◌, ◌-◌, ◌≤◌, ◌<◌, zero, ◌*◌, ◌/◌, ◌%◌, ◌^◌, ◌≡◌, refl, false, Bool, true, List, [], ◌∷◌, ◌++◌, length, get_or, leb, ℤ, pos, negsuc, nat_abs, Result, Ok, Err, Some}
 use Rattle.std.proofs.Common.{sym, ◌∙◌, ap, subst, ⊎_elim, pow-suc, mod-lt, div-add-mod', div-lt_iff_lt-mul, le-div_iff_mul-le, mul-le-mul_right, mul_assoc, mul_comm, one-mul, arith, length-append, le-leb, leb-true, leb-false}
 use Rattle.std.proofs.Math.Nat.{pow-zero, pow-le-pow_right}
 use Rattle.std.proofs.lemmas.Bool.{lt-leb}
 use Rattle.whole.specs.Tests.{lt_or_ge}
 use Rattle.writer.specs.Promise.{put, Copies, copied, Decimal, digits_of, Width, WholeDecimal, YmdDecimal, Puts, Writes, PutNumber, PutWhole, WriteYmd, whole_text, Signs}
-use Rattle.writer.specs.declared.buffer.Copied.{Copied}
 use Rattle.digits.specs.Numerals.{value_from, value_of, Digit, Digits, dash}
 use Rattle.refusals.specs.declared.Refusal.{Refusal}
 use Rattle.refusals.specs.Promise.{refusal}
 use Rattle.whole.specs.Promise.{is_negative_value}
-use Rattle.writer.specs.declared.Written.{Written}
 
 -- ---- the text t was put into b from `at` on: b' is the buffer then, and i the offset after the text
 
@@ -31,8 +29,8 @@ no_room_test len at size h = sym (lt-leb (at + size) len (omega arith))
 
 -- ---- what a copier promises
 
-pub copied_to : {t b : List ℕ} {at : ℕ} {b' : List ℕ} {i : ℕ} → at + length t ≤ length b → PutText b at t b' i → Copies t b at b' (Copied.To i)
-copied_to {t} {b} {at} {b'} {i} h s = subst (λ (x : List ℕ). Copies t b at x (Copied.To i)) (sym s.is) (subst (λ (k : ℕ). Copies t b at (put b at t) (Copied.To k)) (sym s.offset) (copied h))
+pub copied_to : {t b : List ℕ} {at : ℕ} {b' : List ℕ} {i : ℕ} → at + length t ≤ length b → PutText b at t b' i → Copies t b at b' (Some i)
+copied_to {t} {b} {at} {b'} {i} h s = subst (λ (x : List ℕ). Copies t b at x (Some i)) (sym s.is) (subst (λ (k : ℕ). Copies t b at (put b at t) (Some k)) (sym s.offset) (copied h))
 
 -- ---- the digits of a number
 
@@ -233,14 +231,14 @@ ymd_text y m d ky km kd wy wm wd = YmdDecimal.ymd_decimal (whole_text_lem y ky w
 
 -- ---- what a writer promises
 
-pub wrote : {IsText : List ℕ → Type 0} {b b' t : List ℕ} {at i : ℕ} → IsText t → at + length t ≤ length b → PutText b at t b' i → Writes IsText b at b' (Written.Done i)
+pub wrote : {IsText : List ℕ → Type 0} {b b' t : List ℕ} {at i : ℕ} → IsText t → at + length t ≤ length b → PutText b at t b' i → Writes IsText b at b' (Ok i)
 wrote {IsText} {b} {b'} {t} {at} {i} x h s =
-    Writes.writes x (subst (λ (l : List ℕ). Puts t b at l (Written.Done i)) (sym s.is) (subst (λ (k : ℕ). Puts t b at (put b at t) (Written.Done k)) (sym s.offset) (Puts.done h)))
+    Writes.writes x (subst (λ (l : List ℕ). Puts t b at l (Ok i)) (sym s.is) (subst (λ (k : ℕ). Puts t b at (put b at t) (Ok k)) (sym s.offset) (Puts.done h)))
 
 pub left_alone : {IsText : List ℕ → Type 0} {b : List ℕ} {at k : ℕ} {f : Refusal} (t : List ℕ) → IsText t → k ≡ length t → length b < at + length t → f ≡ refusal 18 0 (pos k)
-    → Writes IsText b at b (Written.Refused f)
+    → Writes IsText b at b (Err f)
 left_alone {b = b} {at = at} t x e h g =
-    Writes.writes x (subst (λ (f : Refusal). Puts t b at b (Written.Refused f)) (sym (g ∙ ap (λ (k : ℕ). refusal 18 0 (pos k)) e)) (Puts.short h))
+    Writes.writes x (subst (λ (f : Refusal). Puts t b at b (Err f)) (sym (g ∙ ap (λ (k : ℕ). refusal 18 0 (pos k)) e)) (Puts.short h))
 
 -- ---- what the parts of a date come to, one after the other
 
@@ -253,16 +251,16 @@ put_tested k n {b} {at} {b'} {i} e s = subst (λ (t : Bool). PutText b at (whole
 
 -- ---- the text of a sign and a magnitude, whatever its width
 
-writes_as : {P Q : List ℕ → Type 0} {b b' : List ℕ} {at : ℕ} {r : Written} → ((t : List ℕ) → P t → Q t) → Writes P b at b' r → Writes Q b at b' r
+writes_as : {P Q : List ℕ → Type 0} {b b' : List ℕ} {at : ℕ} {r : Result ℕ Refusal} → ((t : List ℕ) → P t → Q t) → Writes P b at b' r → Writes Q b at b' r
 writes_as f (Writes.writes {t} x h) = Writes.writes (f t x) h
 
-pub as_number : {n : ℕ} {b b' : List ℕ} {at : ℕ} {r : Written} → Writes (Signs false n) b at b' r → PutNumber n b at b' r
+pub as_number : {n : ℕ} {b b' : List ℕ} {at : ℕ} {r : Result ℕ Refusal} → Writes (Signs false n) b at b' r → PutNumber n b at b' r
 as_number {n} = writes_as by
   where
     by : (t : List ℕ) → Signs false n t → Decimal t n
     by t (Signs.signs w) = decimal_of w
 
-pub as_whole : {x : ℤ} {neg : Bool} {n : ℕ} {b b' : List ℕ} {at : ℕ} {r : Written} → neg ≡ is_negative_value x → n ≡ nat_abs x → Writes (Signs neg n) b at b' r → PutWhole x b at b' r
+pub as_whole : {x : ℤ} {neg : Bool} {n : ℕ} {b b' : List ℕ} {at : ℕ} {r : Result ℕ Refusal} → neg ≡ is_negative_value x → n ≡ nat_abs x → Writes (Signs neg n) b at b' r → PutWhole x b at b' r
 as_whole {x} {neg} {n} e h = writes_as (λ t s. by t (subst (λ (i : ℕ). Signs (is_negative_value x) i t) h (subst (λ (u : Bool). Signs u n t) e s)))
   where
     by : (t : List ℕ) → Signs (is_negative_value x) (nat_abs x) t → WholeDecimal t x
@@ -275,10 +273,10 @@ module _ (neg : Bool) (n k size at : ℕ) (b : List ℕ) {room : Bool} (w : Widt
   pub room_for : room ≡ true → at + whole_width neg k ≤ length b
   room_for e = subst (λ (i : ℕ). at + i ≤ length b) s (leb-true (at + size) (length b) (sym test ∙ e))
 
-  pub signed_wrote : room ≡ true → {b' : List ℕ} {i : ℕ} → PutText b at (whole_text neg k n) b' i → Writes (Signs neg n) b at b' (Written.Done i)
+  pub signed_wrote : room ≡ true → {b' : List ℕ} {i : ℕ} → PutText b at (whole_text neg k n) b' i → Writes (Signs neg n) b at b' (Ok i)
   signed_wrote e r = wrote (Signs.signs w) (subst (λ (j : ℕ). at + j ≤ length b) (sym (length_whole neg k n)) (room_for e)) r
 
-  pub signed_left : room ≡ false → {f : Refusal} → f ≡ refusal 18 0 (pos size) → Writes (Signs neg n) b at b (Written.Refused f)
+  pub signed_left : room ≡ false → {f : Refusal} → f ≡ refusal 18 0 (pos size) → Writes (Signs neg n) b at b (Err f)
   signed_left e g =
       let t : size ≡ length (whole_text neg k n) = s ∙ sym (length_whole neg k n) in
       left_alone (whole_text neg k n) (Signs.signs w) t (subst (λ (j : ℕ). length b < at + j) t (leb-false (at + size) (length b) (sym test ∙ e))) g
@@ -295,5 +293,5 @@ module _ (y : ℤ) (m d : ℕ) {neg : Bool} {n ky km kd w : ℕ} (e : neg ≡ is
   pub size_is : w + km + kd + 2 ≡ length (ymd_text_value neg ky n km m kd d)
   size_is = ap (λ (i : ℕ). i + km + kd + 2) s ∙ sym (length_ymd neg ky n km m kd d)
 
-  pub ymd_left : length b < w + km + kd + 2 → {f : Refusal} → f ≡ refusal 18 0 (pos (w + km + kd + 2)) → WriteYmd y m d b b (Written.Refused f)
+  pub ymd_left : length b < w + km + kd + 2 → {f : Refusal} → f ≡ refusal 18 0 (pos (w + km + kd + 2)) → WriteYmd y m d b b (Err f)
   ymd_left h g = left_alone (ymd_text_value neg ky n km m kd d) text_is size_is (omega (arith, size_is)) g

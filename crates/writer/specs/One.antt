@@ -1,12 +1,11 @@
 -- Two results that a promise allows are one: a theorem for each promise.
-use Rattle.std.specs.Prelude.{ℕ, suc, ◌+◌, ◌-◌, ◌*◌, ◌≤◌, ◌<◌, ◌≡◌, refl, List, ◌∷◌, ◌++◌, length, get_or, false, Bool, true, ℤ}
+use Rattle.std.specs.Prelude.{ℕ, suc, ◌+◌, ◌-◌, ◌*◌, ◌≤◌, ◌<◌, ◌≡◌, refl, List, ◌∷◌, ◌++◌, length, get_or, false, Bool, true, ℤ, Result, Option}
 use Rattle.std.proofs.Common.{sym, ◌∙◌, ap, ap₂, subst, ⊎_elim, arith}
 use Rattle.whole.specs.Tests.{lt_or_ge}
 use Rattle.digits.specs.Numerals.{value_from, value_of, Digits, Numeral, dash}
 use Rattle.writer.specs.Promise.{Decimal, Width, Copies, copied, no_room, WholeDecimal, YmdDecimal, Puts, Writes, PutNumber, PutWhole, WriteYmd, whole_text, Signs}
-use Rattle.writer.specs.declared.buffer.Copied.{Copied}
 use Rattle.writer.specs.Laws.{decimal_of, length_digits}
-use Rattle.writer.specs.declared.Written.{Written}
+use Rattle.refusals.specs.declared.Refusal.{Refusal}
 
 -- ---- a number has one decimal
 
@@ -53,7 +52,7 @@ decimal_one {p} {q} {n} d e = ⊎_elim
 
 -- ---- bytes copied, and how many digits a number has
 
-pub copy_text_one : {t b b₁ b₂ : List ℕ} {at : ℕ} {r₁ r₂ : Copied} → Copies t b at b₁ r₁ → Copies t b at b₂ r₂ → (b₁ ≡ b₂) × (r₁ ≡ r₂)
+pub copy_text_one : {t b b₁ b₂ : List ℕ} {at : ℕ} {r₁ r₂ : Option ℕ} → Copies t b at b₁ r₁ → Copies t b at b₂ r₂ → (b₁ ≡ b₂) × (r₁ ≡ r₂)
 copy_text_one (copied h) (copied k) = (refl, refl)
 copy_text_one (copied h) (no_room k) = absurd (omega arith)
 copy_text_one (no_room h) (copied k) = absurd (omega arith)
@@ -74,17 +73,17 @@ ymd_one (YmdDecimal.ymd_decimal a b c) (YmdDecimal.ymd_decimal a' b' c') =
 
 -- ---- each promise allows one result
 
-puts_one : {t b b₁ b₂ : List ℕ} {at : ℕ} {r₁ r₂ : Written} → Puts t b at b₁ r₁ → Puts t b at b₂ r₂ → (b₁ ≡ b₂) × (r₁ ≡ r₂)
+puts_one : {t b b₁ b₂ : List ℕ} {at : ℕ} {r₁ r₂ : Result ℕ Refusal} → Puts t b at b₁ r₁ → Puts t b at b₂ r₂ → (b₁ ≡ b₂) × (r₁ ≡ r₂)
 puts_one (Puts.done h) (Puts.done k) = (refl, refl)
 puts_one (Puts.done h) (Puts.short k) = absurd (omega arith)
 puts_one (Puts.short h) (Puts.done k) = absurd (omega arith)
 puts_one (Puts.short h) (Puts.short k) = (refl, refl)
 
 pub writes_one : {IsText : List ℕ → Type 0} → ((t u : List ℕ) → IsText t → IsText u → t ≡ u)
-    → {b b₁ b₂ : List ℕ} {at : ℕ} {r₁ r₂ : Written} → Writes IsText b at b₁ r₁ → Writes IsText b at b₂ r₂ → (b₁ ≡ b₂) × (r₁ ≡ r₂)
+    → {b b₁ b₂ : List ℕ} {at : ℕ} {r₁ r₂ : Result ℕ Refusal} → Writes IsText b at b₁ r₁ → Writes IsText b at b₂ r₂ → (b₁ ≡ b₂) × (r₁ ≡ r₂)
 writes_one one {b} {b₁} {at = at} {r₁ = r₁} (Writes.writes {t} x h) (Writes.writes {t = u} y k) = puts_one (subst (λ (z : List ℕ). Puts z b at b₁ r₁) (one t u x y) h) k
 
-module _ {b b₁ b₂ : List ℕ} {at : ℕ} {r₁ r₂ : Written} where
+module _ {b b₁ b₂ : List ℕ} {at : ℕ} {r₁ r₂ : Result ℕ Refusal} where
   pub put_number_one : {n : ℕ} → PutNumber n b at b₁ r₁ → PutNumber n b at b₂ r₂ → (b₁ ≡ b₂) × (r₁ ≡ r₂)
   put_number_one = writes_one (λ t u x y. decimal_one x y)
 
@@ -99,8 +98,8 @@ signs_one {neg} {n} (Signs.signs {k} v) (Signs.signs {k = j} w) = by neg
     by true = ap (λ (x : List ℕ). dash ∷ x) (decimal_one (decimal_of v) (decimal_of w))
     by false = decimal_one (decimal_of v) (decimal_of w)
 
-pub put_at_one : {neg : Bool} {n : ℕ} {b b₁ b₂ : List ℕ} {at : ℕ} {r₁ r₂ : Written} → Writes (Signs neg n) b at b₁ r₁ → Writes (Signs neg n) b at b₂ r₂ → (b₁ ≡ b₂) × (r₁ ≡ r₂)
+pub put_at_one : {neg : Bool} {n : ℕ} {b b₁ b₂ : List ℕ} {at : ℕ} {r₁ r₂ : Result ℕ Refusal} → Writes (Signs neg n) b at b₁ r₁ → Writes (Signs neg n) b at b₂ r₂ → (b₁ ≡ b₂) × (r₁ ≡ r₂)
 put_at_one = writes_one (λ t u x y. signs_one x y)
 
-pub write_ymd_one : {y : ℤ} {m d : ℕ} {b b₁ b₂ : List ℕ} {r₁ r₂ : Written} → WriteYmd y m d b b₁ r₁ → WriteYmd y m d b b₂ r₂ → (b₁ ≡ b₂) × (r₁ ≡ r₂)
+pub write_ymd_one : {y : ℤ} {m d : ℕ} {b b₁ b₂ : List ℕ} {r₁ r₂ : Result ℕ Refusal} → WriteYmd y m d b b₁ r₁ → WriteYmd y m d b b₂ r₂ → (b₁ ≡ b₂) × (r₁ ≡ r₂)
 write_ymd_one = writes_one (λ t u x y. ymd_one x y)

@@ -1,10 +1,9 @@
 -- What is promised: a text put into a lent buffer and what a copier says of it; how a number is written, and how many digits it has; numbers and dates
 -- with no padding and a `-` before a negative number, at an offset of a buffer, and what a writer says of them.
-use Rattle.std.specs.Prelude.{ℕ, ◌+◌, ◌≤◌, ◌<◌, zero, suc, ◌/◌, ◌%◌, ◌^◌, List, ◌++◌, [], ◌∷◌, length, take, drop, get_or, ◌≡◌, ℤ, pos, negsuc, Bool, true, false}
-use Rattle.writer.specs.declared.buffer.Copied.{Copied}
+use Rattle.std.specs.Prelude.{ℕ, ◌+◌, ◌≤◌, ◌<◌, zero, suc, ◌/◌, ◌%◌, ◌^◌, List, ◌++◌, [], ◌∷◌, length, take, drop, get_or, ◌≡◌, ℤ, pos, negsuc, Bool, true, false, Result, Ok, Err, Option, Some, None}
 use Rattle.digits.specs.Numerals.{Numeral, dash}
 use Rattle.refusals.specs.Promise.{refusal}
-use Rattle.writer.specs.declared.Written.{Written}
+use Rattle.refusals.specs.declared.Refusal.{Refusal}
 
 -- ---- a buffer
 
@@ -13,9 +12,9 @@ abbrev pub put : List ℕ → ℕ → List ℕ → List ℕ
 put b at t = take at b ++ (t ++ drop (at + length t) b)
 
 -- The text t is copied into the buffer b from `at` on, and the answer tells the offset after it; or b is too short for it, and is left as it was.
-pub data Copies (t b : List ℕ) (at : ℕ) : List ℕ → Copied → Type 0 where
-  copied : at + length t ≤ length b → Copies t b at (put b at t) (Copied.To (at + length t))
-  no_room : length b < at + length t → Copies t b at b Copied.NoRoom
+pub data Copies (t b : List ℕ) (at : ℕ) : List ℕ → Option ℕ → Type 0 where
+  copied : at + length t ≤ length b → Copies t b at (put b at t) (Some (at + length t))
+  no_room : length b < at + length t → Copies t b at b None
 
 -- ---- a number as it is written: its digits, with no padding
 
@@ -54,23 +53,23 @@ pub data YmdDecimal : List ℕ → ℤ → ℕ → ℕ → Type 0 where
 
 -- The text t is to be written from `at` on. It is, and the answer tells the offset after it, which for a text at the front is its length; or the buffer is
 -- too short for it, and is left as it was.
-pub data Puts (t b : List ℕ) (at : ℕ) : List ℕ → Written → Type 0 where
-  done : at + length t ≤ length b → Puts t b at (put b at t) (Written.Done (at + length t))
-  short : length b < at + length t → Puts t b at b (Written.Refused (refusal 18 0 (pos (length t))))
+pub data Puts (t b : List ℕ) (at : ℕ) : List ℕ → Result ℕ Refusal → Type 0 where
+  done : at + length t ≤ length b → Puts t b at (put b at t) (Ok (at + length t))
+  short : length b < at + length t → Puts t b at b (Err (refusal 18 0 (pos (length t))))
 
 -- a writer of what `IsText` says, into the buffer b from `at` on: it leaves b' and answers r
-pub data Writes (IsText : List ℕ → Type 0) (b : List ℕ) (at : ℕ) (b' : List ℕ) (r : Written) : Type 0 where
+pub data Writes (IsText : List ℕ → Type 0) (b : List ℕ) (at : ℕ) (b' : List ℕ) (r : Result ℕ Refusal) : Type 0 where
   writes : {t : List ℕ} → IsText t → Puts t b at b' r → Writes IsText b at b' r
 
 -- the text of a sign and a magnitude, whatever its width: put_at is a writer of it
 pub data Signs (neg : Bool) (n : ℕ) : List ℕ → Type 0 where
   signs : {k : ℕ} → Width n k → Signs neg n (whole_text neg k n)
 
-abbrev pub PutNumber : ℕ → List ℕ → ℕ → List ℕ → Written → Type 0
+abbrev pub PutNumber : ℕ → List ℕ → ℕ → List ℕ → Result ℕ Refusal → Type 0
 PutNumber n = Writes (λ (t : List ℕ). Decimal t n)
 
-abbrev pub PutWhole : ℤ → List ℕ → ℕ → List ℕ → Written → Type 0
+abbrev pub PutWhole : ℤ → List ℕ → ℕ → List ℕ → Result ℕ Refusal → Type 0
 PutWhole x = Writes (λ (t : List ℕ). WholeDecimal t x)
 
-abbrev pub WriteYmd : ℤ → ℕ → ℕ → List ℕ → List ℕ → Written → Type 0
+abbrev pub WriteYmd : ℤ → ℕ → ℕ → List ℕ → List ℕ → Result ℕ Refusal → Type 0
 WriteYmd y m d b b' r = Writes (λ (t : List ℕ). YmdDecimal t y m d) b 0 b' r

@@ -27,20 +27,13 @@ fn put_bytes(out: &mut [u8], at: usize, text: &[u8]) -> usize
     at + text.len()
 }
 
-// Whether a text had room.
-#[derive(Clone, Copy)]
-pub enum Copied {
-    To(usize),
-    NoRoom,
-}
-
 // Bytes as they stand: the answer tells the offset after them.
-pub fn copy_text(out: &mut [u8], at: usize, text: &[u8]) -> Copied
+pub fn copy_text(out: &mut [u8], at: usize, text: &[u8]) -> Option<usize>
     ensures { Copies text.now out.old at out.new result }
 {
     if has_room(out.len(), at, text.len()) {
         let end = put_bytes(out, at, text);
-        return Copied::To(end);
+        return Some(end);
     }
-    Copied::NoRoom
+    None
 }

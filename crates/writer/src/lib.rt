@@ -12,12 +12,6 @@ ghost use Rattle.writer.specs.Laws.{whole_width};
 
 use refusals::Refusal;
 
-#[derive(Clone, Copy)]
-pub enum Written {
-    Done(usize),
-    Refused(Refusal),
-}
-
 // The last k digits of n from `at` on, and the offset after them.
 fn put_digits(buf: &mut [u8], at: usize, n: u64, k: usize) -> usize
     requires { at + k ≤ length buf.old }
@@ -61,26 +55,26 @@ fn signed_width(negative: bool, k: usize) -> usize
     if negative { k + 1 } else { k }
 }
 
-pub fn put_at(buf: &mut [u8], at: usize, negative: bool, n: u64) -> Written
+pub fn put_at(buf: &mut [u8], at: usize, negative: bool, n: u64) -> Result<usize, Refusal>
     ensures { Writes (Signs negative n) buf.old at buf.new result }
 {
     let k = decimals::width(n);
     let size = signed_width(negative, k);
     if buffer::has_room(buf.len(), at, size) {
         let end = put_signed(buf, at, negative, n, k);
-        return Written::Done(end);
+        return Ok(end);
     }
-    Written::Refused(refusals::refusal_with(18, size as u32))
+    Err(refusals::refusal_with(18, size as u32))
 }
 
 // A number with no padding, from `at` on: the answer tells the offset after it.
-pub fn put_number(buf: &mut [u8], at: usize, n: u32) -> Written
+pub fn put_number(buf: &mut [u8], at: usize, n: u32) -> Result<usize, Refusal>
     ensures { PutNumber n buf.old at buf.new result }
 {
     put_at(buf, at, false, n as u64)
 }
 
-pub fn put_whole(buf: &mut [u8], at: usize, x: i64) -> Written
+pub fn put_whole(buf: &mut [u8], at: usize, x: i64) -> Result<usize, Refusal>
     ensures { PutWhole x buf.old at buf.new result }
 {
     let negative = whole::is_negative(x);
@@ -89,7 +83,7 @@ pub fn put_whole(buf: &mut [u8], at: usize, x: i64) -> Written
 }
 
 // The text of a date at the front of the buffer: the answer tells its length.
-pub fn write_ymd(buf: &mut [u8], year: i32, month: u32, day: u32) -> Written
+pub fn write_ymd(buf: &mut [u8], year: i32, month: u32, day: u32) -> Result<usize, Refusal>
     ensures { WriteYmd year month day buf.old buf.new result }
 {
     let x = whole::widened(year);
@@ -102,10 +96,10 @@ pub fn write_ymd(buf: &mut [u8], year: i32, month: u32, day: u32) -> Written
     let kd = decimals::width(d);
     let size = signed_width(negative, ky) + km + kd + 2;
     if buf.len() < size {
-        return Written::Refused(refusals::refusal_with(18, size as u32));
+        return Err(refusals::refusal_with(18, size as u32));
     }
     let second = put_signed(buf, 0, negative, n, ky);
     let third = put_dashed(buf, second, m, km);
     let end = put_dashed(buf, third, d, kd);
-    Written::Done(end)
+    Ok(end)
 }

@@ -3,12 +3,12 @@ use mathlib.Core.Path.{subst}
 use lib.IntN.{ℤ}
 use Rattle.ways.specs.Laws.{ahead_is}
 use Rattle.ways.specs.Promise.{goes_later_value}
-use Rattle.calendar.specs.declared.Dated.TheVariants as Dated'
 use Rattle.calendar.specs.InMonth.{near_next}
 use Rattle.calendar.specs.Promise.{Next}
 use Rattle.calendar.proofs.ahead.Goals as goal
+use Rattle.std.specs.Prelude.{Ok}
 
-pub returns-in-Date : goal.returns-in-Date
-returns-in-Date c =
-    subst (λ (n : ℤ). Next c.args.date n (Dated'.Date c.in-Date.next)) (ahead_is c.args.way c.args.date.jdn)
-    (near_next (goes_later_value c.args.way) (rw c.goes_later.ensures at c.in-Date.ensures))
+pub returns-in-Ok : goal.returns-in-Ok
+returns-in-Ok c =
+    subst (λ (n : ℤ). Next c.args.date n (Ok c.in-Ok.next)) (ahead_is c.args.way c.args.date.jdn)
+    (near_next (goes_later_value c.args.way) (rw c.goes_later.ensures at c.in-Ok.ensures))

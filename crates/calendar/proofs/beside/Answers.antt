@@ -18,16 +18,16 @@ genuine d e h = rw e at h
 made_up : (d : Date) {r : Bool} → r ≡ false → IsGenuine d r → ¬ Genuine d
 made_up d e h = rw e at h
 
-pub returns-in-Nowhere : goal.returns-in-Nowhere
-returns-in-Nowhere c =
+pub returns-in-None : goal.returns-in-None
+returns-in-None c =
     let f : SFits w32 c.args.date.jdn = search rules in
-    rw c.refused_count.ensures (passes (genuine c.args.date c.if-is_genuine.true c.is_genuine.ensures) (refuses (nowhere_outside (rw (to_z-of_z f) at c.in-Nowhere.ensures))))
+    rw c.refused_count.ensures (passes (genuine c.args.date c.if-is_genuine.true c.is_genuine.ensures) (refuses (nowhere_outside (rw (to_z-of_z f) at c.in-None.ensures))))
 
-pub returns-in-Day : goal.returns-in-Day
-returns-in-Day c =
+pub returns-in-Some : goal.returns-in-Some
+returns-in-Some c =
     let f : SFits w32 c.args.date.jdn = search rules in
-    let g : SFits w32 c.in-Day.jdn = search rules in
-    let (i, e) = day_there (rw (to_z-of_z f) at c.in-Day.ensures) in
+    let g : SFits w32 c.in-Some.jdn = search rules in
+    let (i, e) = day_there (rw (to_z-of_z f) at c.in-Some.ensures) in
     next_row (genuine c.args.date c.if-is_genuine.true c.is_genuine.ensures) i (rw (to_z-of_z g, e) at c.at_jdn.ensures)
 
 pub returns : goal.returns

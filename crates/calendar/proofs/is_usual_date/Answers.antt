@@ -14,25 +14,25 @@ use Rattle.calendar.proofs.is_usual_date.Goals as goal
 pub overflow_add-at : goal.overflow_add-at
 overflow_add-at c = record { fits = omega (arith, year_in_room (raised_year_biased c.raised.type_inv) c.year_in-at.ensures) }
 
-pub returns-in-Nothing : goal.returns-in-Nothing
-returns-in-Nothing c =
+pub returns-in-None : goal.returns-in-None
+returns-in-None c =
     let f : SFits w32 c.args.date.year = search rules in
-    λ g. none_genuine c.args.date c.raised.result (switch_runs _ c.in-At.ensures) (raised_year_biased c.raised.type_inv) (biased_year c.raised.result ∙ c.raised.ensures ∙ to_z-of_z f) (year_wholly c.year_in-at.ensures c.if-at.true)
-    c.in-Nothing.ensures g.0
+    λ g. none_genuine c.args.date c.raised.result (switch_runs _ c.in-Ok.ensures) (raised_year_biased c.raised.type_inv) (biased_year c.raised.result ∙ c.raised.ensures ∙ to_z-of_z f) (year_wholly c.year_in-at.ensures c.if-at.true)
+    c.in-None.ensures g.0
 
-pub returns-in-At-md2ordinal : goal.returns-in-At-md2ordinal
-returns-in-At-md2ordinal c =
+pub returns-in-Ok-md2ordinal : goal.returns-in-Ok-md2ordinal
+returns-in-Ok-md2ordinal c =
     let f : SFits w32 c.args.date.year = search rules in
     let e = biased_year c.raised.result ∙ c.raised.ensures ∙ to_z-of_z f in
-    usual_by c.args.date c.raised.result (switch_runs _ c.in-At.ensures) (raised_year_biased c.raised.type_inv) e (year_wholly c.year_in-at.ensures c.if-at.true)
-    c.in-At-md2ordinal.ensures
-    (record { switch = c.in-At.switch; biased_year = c.raised.result; at = c.year_in-at.result; runs = switch_runs _ c.in-At.ensures; year_is = e; year_in = c.year_in-at.ensures; wholly = c.if-at.true })
+    usual_by c.args.date c.raised.result (switch_runs _ c.in-Ok.ensures) (raised_year_biased c.raised.type_inv) e (year_wholly c.year_in-at.ensures c.if-at.true)
+    c.in-Ok-md2ordinal.ensures
+    (record { switch = c.in-Ok.switch; biased_year = c.raised.result; at = c.year_in-at.result; runs = switch_runs _ c.in-Ok.ensures; year_is = e; year_in = c.year_in-at.ensures; wholly = c.if-at.true })
     c.is_on.result c.is_on.ensures
 
-pub returns-in-MadeUp : goal.returns-in-MadeUp
-returns-in-MadeUp c = λ g. switch_made_up _ c.in-MadeUp.ensures g.0.accepted
+pub returns-in-Err : goal.returns-in-Err
+returns-in-Err c = λ g. switch_made_up _ c.in-Err.ensures g.0.accepted
 
 pub returns-else-at : goal.returns-else-at
 returns-else-at c =
     let f : SFits w32 c.args.date.year = search rules in
-    λ g. not_whole c.args.date c.raised.result (switch_runs _ c.in-At.ensures) (biased_year c.raised.result ∙ c.raised.ensures ∙ to_z-of_z f) c.year_in-at.ensures c.if-at.false g.1
+    λ g. not_whole c.args.date c.raised.result (switch_runs _ c.in-Ok.ensures) (biased_year c.raised.result ∙ c.raised.ensures ∙ to_z-of_z f) c.year_in-at.ensures c.if-at.false g.1

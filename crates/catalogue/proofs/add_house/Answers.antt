@@ -13,8 +13,8 @@ use Rattle.catalogue.proofs.add_house.Goals as goal
 pub returns-then-front_taken : goal.returns-then-front_taken
 returns-then-front_taken c = house_taken (rw c.if-front_taken.true at c.front_taken.ensures) c.refusal_at.ensures
 
-pub returns-in-Refused : goal.returns-in-Refused
-returns-in-Refused c = house_judged (rw c.if-front_taken.false at c.front_taken.ensures) (omega arith) (to_z-of_z {w = w32} c.ranges.r) (rw c.in-Refused.is at c.judge.ensures) (c.refused_reformation.ensures ∙ ap (refusal _ _) (to_z-of_z {w = w32} c.ranges.r))
+pub returns-in-Err : goal.returns-in-Err
+returns-in-Err c = house_judged (rw c.if-front_taken.false at c.front_taken.ensures) (omega arith) (to_z-of_z {w = w32} c.ranges.r) (rw c.in-Err.is at c.judge.ensures) (c.refused_reformation.ensures ∙ ap (refusal _ _) (to_z-of_z {w = w32} c.ranges.r))
 
-pub returns-in-Accepted : goal.returns-in-Accepted
-returns-in-Accepted c = house_added (rw c.if-front_taken.false at c.front_taken.ensures) (omega arith) (to_z-of_z {w = w32} c.ranges.r) (to_z-of_z {w = w32} c.ranges.r) (rw c.in-Accepted.is at c.judge.ensures) (subst (λ (k : ℕ). k ≤ most_name) (sym (length-take-le _ _ c.requires.1.0)) c.requires.1.1) c.enter_front.ensures
+pub returns-in-Ok : goal.returns-in-Ok
+returns-in-Ok c = house_added (rw c.if-front_taken.false at c.front_taken.ensures) (omega arith) (to_z-of_z {w = w32} c.ranges.r) (to_z-of_z {w = w32} c.ranges.r) (rw c.in-Ok.is at c.judge.ensures) (subst (λ (k : ℕ). k ≤ most_name) (sym (length-take-le _ _ c.requires.1.0)) c.requires.1.1) c.enter_front.ensures

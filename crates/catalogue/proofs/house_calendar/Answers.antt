@@ -4,8 +4,8 @@ use mir.Facts.{to_z-of_z}
 use mir.Syntax.{w32}
 use Rattle.catalogue.proofs.house_calendar.Goals as goal
 
-pub returns-in-Accepted : goal.returns-in-Accepted
-returns-in-Accepted c = house_accepted (to_z-of_z {w = w32} c.ranges.r) (rw c.in-Accepted.is at c.judge.ensures)
+pub returns-in-Ok : goal.returns-in-Ok
+returns-in-Ok c = house_accepted (to_z-of_z {w = w32} c.ranges.r) (rw c.in-Ok.is at c.judge.ensures)
 
-pub returns-in-Refused : goal.returns-in-Refused
-returns-in-Refused c = house_refused (to_z-of_z {w = w32} c.ranges.r) (rw c.in-Refused.is at c.judge.ensures) c.refusal_at.ensures
+pub returns-in-Err : goal.returns-in-Err
+returns-in-Err c = house_refused (to_z-of_z {w = w32} c.ranges.r) (rw c.in-Err.is at c.judge.ensures) c.refusal_at.ensures

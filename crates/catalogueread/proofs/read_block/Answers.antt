@@ -7,14 +7,14 @@ use Rattle.catalogueread.proofs.read_block.Goals as goal
 pub loop-p-init : goal.loop-p-init
 loop-p-init c = λ e r. r
 
-pub returns-in-Refused : goal.returns-in-Refused
-returns-in-Refused c = c.loop-p.invariant _ (ReadsBlock.stops c.loop-p-test.true (rw c.in-Refused.is at c.read_next.ensures))
+pub returns-in-Err : goal.returns-in-Err
+returns-in-Err c = c.loop-p.invariant _ (ReadsBlock.stops c.loop-p-test.true (rw c.in-Err.is at c.read_next.ensures))
 
 pub loop-p-smaller : goal.loop-p-smaller
-loop-p-smaller c = omega (arith, next_grows (rw c.in-Going.is at c.read_next.ensures) c.loop-p-test.true, c.loop-p-test.true)
+loop-p-smaller c = omega (arith, next_grows (rw c.in-Ok.is at c.read_next.ensures) c.loop-p-test.true, c.loop-p-test.true)
 
 pub loop-p-preserved : goal.loop-p-preserved
-loop-p-preserved c = leads_on c.loop-p.invariant c.loop-p-test.true (rw c.in-Going.is at c.read_next.ensures)
+loop-p-preserved c = leads_on c.loop-p.invariant c.loop-p-test.true (rw c.in-Ok.is at c.read_next.ensures)
 
 pub returns : goal.returns
 returns c = c.loop-p.invariant _ (ReadsBlock.block_ends c.loop-p-test.false)

@@ -18,11 +18,11 @@ slice_bounds-add_to_line-end c =
     let i = up_to_inside c.by_eights-end.ensures (omega (arith, c.requires)) in
     omega (arith, i.0, i.1)
 
-pub returns-in-Refused : goal.returns-in-Refused
-returns-in-Refused c = ReadsNext.refused (takes_line c.add_to_line-n.ensures c.requires c.by_eights-end.ensures c.if-end-block.true) (rw c.in-Refused.is at c.add_held.ensures)
+pub returns-in-Err : goal.returns-in-Err
+returns-in-Err c = ReadsNext.refused (takes_line c.add_to_line-n.ensures c.requires c.by_eights-end.ensures c.if-end-block.true) (rw c.in-Err.is at c.add_held.ensures)
 
-pub returns-in-Lines : goal.returns-in-Lines
-returns-in-Lines c = ReadsNext.line (takes_line c.add_to_line-n.ensures c.requires c.by_eights-end.ensures c.if-end-block.true) (rw c.in-Lines.is at c.add_held.ensures)
+pub returns-in-Ok : goal.returns-in-Ok
+returns-in-Ok c = ReadsNext.line (takes_line c.add_to_line-n.ensures c.requires c.by_eights-end.ensures c.if-end-block.true) (rw c.in-Ok.is at c.add_held.ensures)
 
 pub returns : goal.returns
 returns c = ReadsNext.rest (takes_rest c.add_to_line-n.ensures c.requires c.by_eights-end.ensures c.if-end-block.false)

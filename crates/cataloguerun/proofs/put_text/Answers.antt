@@ -2,8 +2,8 @@
 use Rattle.cataloguerun.specs.Laws.{put_copied, never_full}
 use Rattle.cataloguerun.proofs.put_text.Goals as goal
 
-pub returns-in-To : goal.returns-in-To
-returns-in-To c = put_copied (rw c.in-To.is at c.copy_text.ensures)
+pub returns-in-Some : goal.returns-in-Some
+returns-in-Some c = put_copied (rw c.in-Some.is at c.copy_text.ensures)
 
-pub returns-in-NoRoom : goal.returns-in-NoRoom
-returns-in-NoRoom c = absurd (never_full c.requires (rw c.in-NoRoom.is at c.copy_text.ensures))
+pub returns-in-None : goal.returns-in-None
+returns-in-None c = absurd (never_full c.requires (rw c.in-None.is at c.copy_text.ensures))

@@ -5,10 +5,10 @@ use Rattle.columns.specs.Columns.{header}
 use Rattle.whole.specs.Text.{bytes}
 use Rattle.columns.proofs.put_header.Goals as goal
 
-pub returns-in-To : goal.returns-in-To
+pub returns-in-Some : goal.returns-in-Some
 unfolding header bytes
-returns-in-To c = header_wrote refl (rw c.in-To.is at c.copy_text.ensures)
+returns-in-Some c = header_wrote refl (rw c.in-Some.is at c.copy_text.ensures)
 
-pub returns-in-NoRoom : goal.returns-in-NoRoom
+pub returns-in-None : goal.returns-in-None
 unfolding header bytes
-returns-in-NoRoom c = header_left refl refl (rw c.in-NoRoom.is at c.copy_text.ensures) c.refusal_with.ensures
+returns-in-None c = header_left refl refl (rw c.in-None.is at c.copy_text.ensures) c.refusal_with.ensures

@@ -8,8 +8,8 @@ use Rattle.datetext.proofs.Laws.{read_as}
 use borrow.Author.Rules.{rules}
 use Rattle.datetext.proofs.any_date.Goals as goal
 
-pub returns-in-Refused : goal.returns-in-Refused
-returns-in-Refused c = read_as (ap (after_year c.args.text.now) (signed_is c.in-Refused.ensures))
+pub returns-in-Err : goal.returns-in-Err
+returns-in-Err c = read_as (ap (after_year c.args.text.now) (signed_is c.in-Err.ensures))
 
-pub returns-in-Value : goal.returns-in-Value
-returns-in-Value c = read_as ((rw (to_z-of_z {w = w32} {z = c.in-Value.year} (search rules)) at c.year_on.ensures) ∙ ap (after_year c.args.text.now) (signed_is c.in-Value.ensures))
+pub returns-in-Ok : goal.returns-in-Ok
+returns-in-Ok c = read_as ((rw (to_z-of_z {w = w32} {z = c.in-Ok.year} (search rules)) at c.year_on.ensures) ∙ ap (after_year c.args.text.now) (signed_is c.in-Ok.ensures))

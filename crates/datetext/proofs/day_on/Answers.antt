@@ -5,17 +5,17 @@ use Rattle.numbertext.specs.Meaning.{number_is, end_is}
 use Rattle.datetext.specs.Reading.{to_ymd, after_day}
 use Rattle.datetext.proofs.day_on.Goals as goal
 
-pub returns-in-Refused : goal.returns-in-Refused
-returns-in-Refused c =
+pub returns-in-Err : goal.returns-in-Err
+returns-in-Err c =
     let a = c.args in
-    ap (after_day a.text.now a.year a.month a.at) (number_is c.in-Refused.ensures)
+    ap (after_day a.text.now a.year a.month a.at) (number_is c.in-Err.ensures)
 
-pub returns-in-Refused-end_at : goal.returns-in-Refused-end_at
-returns-in-Refused-end_at c =
+pub returns-in-Err-end_at : goal.returns-in-Err-end_at
+returns-in-Err-end_at c =
     let a = c.args in
-    ap (to_ymd _ _ _ _) (end_is c.in-Refused-end_at.ensures) ∙ ap (after_day a.text.now a.year a.month a.at) (number_is c.in-Value.ensures)
+    ap (to_ymd _ _ _ _) (end_is c.in-Err-end_at.ensures) ∙ ap (after_day a.text.now a.year a.month a.at) (number_is c.in-Ok.ensures)
 
-pub returns-in-Reached : goal.returns-in-Reached
-returns-in-Reached c =
+pub returns-in-Ok : goal.returns-in-Ok
+returns-in-Ok c =
     let a = c.args in
-    rw (to_z-of_z c.ranges.year) (ap (to_ymd _ _ _ _) (end_is c.in-Reached.ensures) ∙ ap (after_day a.text.now a.year a.month a.at) (number_is c.in-Value.ensures))
+    rw (to_z-of_z c.ranges.year) (ap (to_ymd _ _ _ _) (end_is c.in-Ok.ensures) ∙ ap (after_day a.text.now a.year a.month a.at) (number_is c.in-Ok.ensures))

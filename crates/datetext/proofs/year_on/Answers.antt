@@ -5,12 +5,12 @@ use Rattle.numbertext.specs.Meaning.{dash_is}
 use Rattle.datetext.specs.Reading.{after_dash_value}
 use Rattle.datetext.proofs.year_on.Goals as goal
 
-pub returns-in-Refused : goal.returns-in-Refused
-returns-in-Refused c =
+pub returns-in-Err : goal.returns-in-Err
+returns-in-Err c =
     let a = c.args in
-    ap (after_dash_value a.text.now a.year) (dash_is c.in-Refused.ensures)
+    ap (after_dash_value a.text.now a.year) (dash_is c.in-Err.ensures)
 
-pub returns-in-Next : goal.returns-in-Next
-returns-in-Next c =
+pub returns-in-Ok : goal.returns-in-Ok
+returns-in-Ok c =
     let a = c.args in
-    (rw (to_z-of_z c.ranges.year) at c.second_on.ensures) ∙ ap (after_dash_value a.text.now a.year) (dash_is c.in-Next.ensures)
+    (rw (to_z-of_z c.ranges.year) at c.second_on.ensures) ∙ ap (after_dash_value a.text.now a.year) (dash_is c.in-Ok.ensures)

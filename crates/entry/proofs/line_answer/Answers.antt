@@ -12,8 +12,8 @@ named_before-requires c = (up_to_inside c.by_eights-tab.ensures (omega arith)).1
 pub text_from-requires : goal.text_from-requires
 text_from-requires c = (up_to_inside c.by_eights-tab.ensures (omega arith)).1
 
-pub returns-in-Refused : goal.returns-in-Refused
-returns-in-Refused c = passes (λ h. omega (arith, h)) (no_calendar c.by_eights-tab.ensures (rw c.in-Refused.is at c.named_before.ensures))
+pub returns-in-Err : goal.returns-in-Err
+returns-in-Err c = passes (λ h. omega (arith, h)) (no_calendar c.by_eights-tab.ensures (rw c.in-Err.is at c.named_before.ensures))
 
-pub returns-in-Calendar : goal.returns-in-Calendar
-returns-in-Calendar c = passes (λ h. omega (arith, h)) (by_text (entry_from c.by_eights-tab.ensures c.text_from.ensures.0) (rw c.in-Calendar.is at c.named_before.ensures) c.parsed_from.ensures)
+pub returns-in-Ok : goal.returns-in-Ok
+returns-in-Ok c = passes (λ h. omega (arith, h)) (by_text (entry_from c.by_eights-tab.ensures c.text_from.ensures.0) (rw c.in-Ok.is at c.named_before.ensures) c.parsed_from.ensures)

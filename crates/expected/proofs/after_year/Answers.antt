@@ -6,8 +6,8 @@ use borrow.Author.Rules.{rules}
 use mir.Syntax.{w32}
 use Rattle.expected.proofs.after_year.Goals as goal
 
-pub returns-in-Value : goal.returns-in-Value
-returns-in-Value c = rw (c.year_digits.ensures, to_z-of_z {w = w32} {z = c.in-Value.year} (search rules)) (year_answer c.requires c.in-Value.ensures refl)
+pub returns-in-Ok : goal.returns-in-Ok
+returns-in-Ok c = rw (c.year_digits.ensures, to_z-of_z {w = w32} {z = c.in-Ok.year} (search rules)) (year_answer c.requires c.in-Ok.ensures refl)
 
-pub returns-in-Refused : goal.returns-in-Refused
-returns-in-Refused c = absurd (year_refused c.requires c.in-Refused.ensures refl)
+pub returns-in-Err : goal.returns-in-Err
+returns-in-Err c = absurd (year_refused c.requires c.in-Err.ensures refl)

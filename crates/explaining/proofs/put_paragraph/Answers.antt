@@ -13,8 +13,8 @@ put_reason-requires c =
     let p = c.parts_of-parts.ensures in
     (record { short = search rules; name_inside = p.name_inside; text_inside = p.text_inside }, place_inside c.explained_from-reason.ensures (omega (arith, length-drop c.parts_of-parts.result.text_from c.args.line.now, c.if-line-gt-LONGEST_ENTRY.false)))
 
-pub returns-in-Refused : goal.returns-in-Refused
-returns-in-Refused c = unnamed_paragraph c.in-Refused.why (search rules) c.parts_of-parts.ensures c.in-Refused.ensures c.put_unnamed.ensures
+pub returns-in-Err : goal.returns-in-Err
+returns-in-Err c = unnamed_paragraph c.in-Err.why (search rules) c.parts_of-parts.ensures c.in-Err.ensures c.put_unnamed.ensures
 
-pub returns-in-Calendar : goal.returns-in-Calendar
-returns-in-Calendar c = reason_paragraph (search rules) c.parts_of-parts.ensures c.in-Calendar.ensures c.explained_from-reason.ensures c.put_reason.ensures
+pub returns-in-Ok : goal.returns-in-Ok
+returns-in-Ok c = reason_paragraph (search rules) c.parts_of-parts.ensures c.in-Ok.ensures c.explained_from-reason.ensures c.put_reason.ensures

@@ -2,8 +2,8 @@
 use Rattle.linetext.specs.Laws.{lined, apart_done, apart_left}
 use Rattle.linetext.proofs.put_apart.Goals as goal
 
-pub returns-in-To : goal.returns-in-To
-returns-in-To c = apart_done (lined c.put_either-size.ensures) c.in-To.ensures
+pub returns-in-Some : goal.returns-in-Some
+returns-in-Some c = apart_done (lined c.put_either-size.ensures) c.in-Some.ensures
 
-pub returns-in-NoRoom : goal.returns-in-NoRoom
-returns-in-NoRoom c = apart_left (lined c.put_either-size.ensures) c.in-NoRoom.ensures c.refusal_with.ensures
+pub returns-in-None : goal.returns-in-None
+returns-in-None c = apart_left (lined c.put_either-size.ensures) c.in-None.ensures c.refusal_with.ensures

@@ -3,9 +3,9 @@ use mir.Facts.{to_z-of_z}
 use Rattle.months.specs.Laws.{nth_refused, nth_date_row}
 use Rattle.months.proofs.nth_date.Goals as goal
 
-pub returns-in-Refused : goal.returns-in-Refused
-returns-in-Refused c = nth_refused (rw (to_z-of_z c.ranges.year) at c.in-Refused.ensures)
+pub returns-in-Err : goal.returns-in-Err
+returns-in-Err c = nth_refused (rw (to_z-of_z c.ranges.year) at c.in-Err.ensures)
 
-pub returns-in-Number : goal.returns-in-Number
-returns-in-Number c =
-    nth_date_row (rw (to_z-of_z c.ranges.year) at c.in-Number.ensures) (rw (to_z-of_z c.ranges.year) at c.at_ymd.ensures)
+pub returns-in-Ok : goal.returns-in-Ok
+returns-in-Ok c =
+    nth_date_row (rw (to_z-of_z c.ranges.year) at c.in-Ok.ensures) (rw (to_z-of_z c.ranges.year) at c.at_ymd.ensures)

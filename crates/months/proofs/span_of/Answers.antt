@@ -7,9 +7,9 @@ use Rattle.months.specs.Laws.{span_made}
 use Rattle.months.specs.Natural.{no_calendar}
 use Rattle.months.proofs.span_of.Goals as goal
 
-pub returns-in-MadeUp : goal.returns-in-MadeUp
-returns-in-MadeUp c = rw c.refusal_with.ensures (no_calendar (switch_made_up _ c.in-MadeUp.ensures))
+pub returns-in-Err : goal.returns-in-Err
+returns-in-Err c = rw c.refusal_with.ensures (no_calendar (switch_made_up _ c.in-Err.ensures))
 
-pub returns-in-At : goal.returns-in-At
-returns-in-At c =
-    span_made _ (switch_runs _ c.in-At.ensures) (raised_year_biased c.raised.type_inv) (biased_year c.raised.result ∙ c.raised.ensures ∙ to_z-of_z c.ranges.year) c.month_span.ensures
+pub returns-in-Ok : goal.returns-in-Ok
+returns-in-Ok c =
+    span_made _ (switch_runs _ c.in-Ok.ensures) (raised_year_biased c.raised.type_inv) (biased_year c.raised.result ∙ c.raised.ensures ∙ to_z-of_z c.ranges.year) c.month_span.ensures

@@ -9,13 +9,13 @@ use Rattle.months.specs.Laws.{year_row, year_ordered, year_few}
 use Rattle.months.proofs.year_length.Goals as goal
 
 pub overflow_sub-result : goal.overflow_sub-result
-overflow_sub-result c = year_ordered c.args.calendar (switch_runs _ c.in-At.ensures) (raised_year_biased c.raised.type_inv) (biased_year c.raised.result ∙ c.raised.ensures ∙ to_z-of_z c.ranges.year) c.year_span-span.ensures
+overflow_sub-result c = year_ordered c.args.calendar (switch_runs _ c.in-Ok.ensures) (raised_year_biased c.raised.type_inv) (biased_year c.raised.result ∙ c.raised.ensures ∙ to_z-of_z c.ranges.year) c.year_span-span.ensures
 
 pub overflow_cast-result : goal.overflow_cast-result
-overflow_cast-result c = record { fits = omega (arith, year_few c.args.calendar (switch_runs _ c.in-At.ensures) (raised_year_biased c.raised.type_inv) (biased_year c.raised.result ∙ c.raised.ensures ∙ to_z-of_z c.ranges.year) c.year_span-span.ensures) }
+overflow_cast-result c = record { fits = omega (arith, year_few c.args.calendar (switch_runs _ c.in-Ok.ensures) (raised_year_biased c.raised.type_inv) (biased_year c.raised.result ∙ c.raised.ensures ∙ to_z-of_z c.ranges.year) c.year_span-span.ensures) }
 
-pub returns-in-MadeUp : goal.returns-in-MadeUp
-returns-in-MadeUp c = rw c.refusal_with.ensures (refuses (switch_made_up _ c.in-MadeUp.ensures))
+pub returns-in-Err : goal.returns-in-Err
+returns-in-Err c = rw c.refusal_with.ensures (refuses (switch_made_up _ c.in-Err.ensures))
 
-pub returns-in-At : goal.returns-in-At
-returns-in-At c = year_row c.args.calendar (switch_runs _ c.in-At.ensures) (raised_year_biased c.raised.type_inv) (biased_year c.raised.result ∙ c.raised.ensures ∙ to_z-of_z c.ranges.year) c.year_span-span.ensures
+pub returns-in-Ok : goal.returns-in-Ok
+returns-in-Ok c = year_row c.args.calendar (switch_runs _ c.in-Ok.ensures) (raised_year_biased c.raised.type_inv) (biased_year c.raised.result ∙ c.raised.ensures ∙ to_z-of_z c.ranges.year) c.year_span-span.ensures

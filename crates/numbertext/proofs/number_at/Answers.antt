@@ -4,20 +4,20 @@ use native.Mathlib.Omega.{arith}
 use Rattle.numbertext.specs.Meaning.{number_meant}
 use Rattle.digits.specs.Runs.{run_within}
 use Rattle.numbertext.specs.Places.{number_value, number_over, number_other, number_end}
-use Rattle.numbertext.specs.declared.Number.{Number}
 use Rattle.numbertext.proofs.number_at.Goals as goal
+use Rattle.std.specs.Prelude.{Err}
 
 pub overflow_cast-result : goal.overflow_cast-result
-overflow_cast-result c = omega (arith, run_within _ _ _ (sym c.in-Value.ensures))
+overflow_cast-result c = omega (arith, run_within _ _ _ (sym c.in-Ok.ensures))
 
-pub returns-in-Value : goal.returns-in-Value
-returns-in-Value c = number_meant (sym (number_value _ _ c.in-Value.ensures refl))
+pub returns-in-Ok : goal.returns-in-Ok
+returns-in-Ok c = number_meant (sym (number_value _ _ c.in-Ok.ensures refl))
 
-pub returns-in-Over : goal.returns-in-Over
-returns-in-Over c = number_meant (ap Number.Refused c.refusal_at.ensures ∙ sym (number_over _ _ c.in-Over.ensures refl))
+pub returns-in-Err-Over : goal.returns-in-Err-Over
+returns-in-Err-Over c = number_meant (ap Err c.refusal_at.ensures ∙ sym (number_over _ _ c.in-Err-Over.ensures refl))
 
 pub returns-then-at-s : goal.returns-then-at-s
-returns-then-at-s c = number_meant (ap Number.Refused c.byte_refusal.ensures ∙ sym (number_other _ _ c.in-Empty.ensures refl c.if-at-s.true))
+returns-then-at-s c = number_meant (ap Err c.byte_refusal.ensures ∙ sym (number_other _ _ c.in-Err-Empty.ensures refl c.if-at-s.true))
 
 pub returns-else-at-s : goal.returns-else-at-s
-returns-else-at-s c = number_meant (ap Number.Refused c.ended_at.ensures ∙ sym (number_end _ _ c.if-at-s.false))
+returns-else-at-s c = number_meant (ap Err c.ended_at.ensures ∙ sym (number_end _ _ c.if-at-s.false))

@@ -10,10 +10,10 @@ use Rattle.reasons.proofs.explain.Goals as goal
 use Rattle.reasons.proofs.explain.Goals.{After-read_date}
 
 accepted : (c : After-read_date) → Accepted c.args.calendar
-accepted c = (switch_runs _ c.in-At.ensures).accepted
+accepted c = (switch_runs _ c.in-Ok.ensures).accepted
 
 pub of_fault-requires : goal.of_fault-requires
-of_fault-requires c = is_faulty c.in-Refused.ensures
+of_fault-requires c = is_faulty c.in-Err.ensures
 
 pub of_ordinal-requires : goal.of_ordinal-requires
 of_ordinal-requires c = accepted (goal.at.of_ordinal-requires c).After-read_date
@@ -21,11 +21,11 @@ of_ordinal-requires c = accepted (goal.at.of_ordinal-requires c).After-read_date
 pub of_ymd-requires : goal.of_ymd-requires
 of_ymd-requires c = (accepted (goal.at.of_ymd-requires c).After-read_date, is_month c.in-Ymd.ensures)
 
-pub returns-in-MadeUp : goal.returns-in-MadeUp
-returns-in-MadeUp c = Explains.made_up (switch_made_up _ c.in-MadeUp.ensures)
+pub returns-in-Err : goal.returns-in-Err
+returns-in-Err c = Explains.made_up (switch_made_up _ c.in-Err.ensures)
 
-pub returns-in-Refused : goal.returns-in-Refused
-returns-in-Refused c = Explains.faulty (accepted (goal.at.returns-in-Refused c).After-read_date) c.of_fault.ensures
+pub returns-in-Err : goal.returns-in-Err
+returns-in-Err c = Explains.faulty (accepted (goal.at.returns-in-Err c).After-read_date) c.of_fault.ensures
 
 pub returns-in-Ordinal : goal.returns-in-Ordinal
 returns-in-Ordinal c =

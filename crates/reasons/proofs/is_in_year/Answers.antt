@@ -2,8 +2,8 @@
 use Rattle.reasons.specs.Laws.{no_year, some_year}
 use Rattle.reasons.proofs.is_in_year.Goals as goal
 
-pub returns-in-Refused : goal.returns-in-Refused
-returns-in-Refused c = no_year c.in-Refused.ensures
+pub returns-in-Err : goal.returns-in-Err
+returns-in-Err c = no_year c.in-Err.ensures
 
-pub returns-in-Value : goal.returns-in-Value
-returns-in-Value c = some_year c.in-Value.ensures
+pub returns-in-Ok : goal.returns-in-Ok
+returns-in-Ok c = some_year c.in-Ok.ensures

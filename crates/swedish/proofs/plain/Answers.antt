@@ -2,8 +2,8 @@
 use Rattle.swedish.specs.Laws.{plain_is, refused_none}
 use Rattle.swedish.proofs.plain.Goals as goal
 
-pub returns-in-Month : goal.returns-in-Month
-returns-in-Month c = plain_is c.in-Month.ensures
+pub returns-in-Ok : goal.returns-in-Ok
+returns-in-Ok c = plain_is c.in-Ok.ensures
 
-pub returns-in-Refused : goal.returns-in-Refused
-returns-in-Refused c = absurd (refused_none c.in-Refused.ensures c.requires)
+pub returns-in-Err : goal.returns-in-Err
+returns-in-Err c = absurd (refused_none c.in-Err.ensures c.requires)

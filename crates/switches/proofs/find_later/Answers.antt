@@ -6,14 +6,14 @@ use Rattle.switches.proofs.find_later.Goals as goal
 pub returns-then-switch-t : goal.returns-then-switch-t
 returns-then-switch-t c =
     new_found (raised_year_biased c.ranges.year.fits) c.is_gregorian_leap.ensures c.gregorian_start-start.ensures c.requires
-    c.in-At.ensures c.if-switch-t.true
+    c.in-Ok.ensures c.if-switch-t.true
 
-pub returns-in-Nothing : goal.returns-in-Nothing
-returns-in-Nothing c =
+pub returns-in-None : goal.returns-in-None
+returns-in-None c =
     rw c.refusal_with.ensures (none_found (raised_year_biased c.ranges.year.fits) c.is_gregorian_leap.ensures c.gregorian_start-start.ensures c.requires
-    c.in-Nothing.ensures c.non_gregorian_refusal-number.ensures)
+    c.in-None.ensures c.non_gregorian_refusal-number.ensures)
 
 pub returns-else-switch-t : goal.returns-else-switch-t
 returns-else-switch-t c =
-    rw c.refusal_with-in-At.ensures (gap_found (raised_year_biased c.ranges.year.fits) c.is_gregorian_leap.ensures c.gregorian_start-start.ensures c.requires
-    c.in-At.ensures c.if-switch-t.false)
+    rw c.refusal_with-in-Ok.ensures (gap_found (raised_year_biased c.ranges.year.fits) c.is_gregorian_leap.ensures c.gregorian_start-start.ensures c.requires
+    c.in-Ok.ensures c.if-switch-t.false)

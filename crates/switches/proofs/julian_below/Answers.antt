@@ -9,14 +9,14 @@ returns-then-switch-start c = below_year c.julian_start-start.ensures c.if-switc
 pub returns-then-s-switch : goal.returns-then-s-switch
 returns-then-s-switch c =
     below_found (raised_year_biased c.ranges.year.fits) c.is_julian_leap.ensures c.julian_start-start.ensures
-    c.in-At.ensures c.if-s-switch.true
+    c.in-Some.ensures c.if-s-switch.true
 
-pub returns-in-Nothing : goal.returns-in-Nothing
-returns-in-Nothing c =
+pub returns-in-None : goal.returns-in-None
+returns-in-None c =
     below_not (raised_year_biased c.ranges.year.fits) c.is_julian_leap.ensures c.julian_start-start.ensures
-    c.in-Nothing.ensures
+    c.in-None.ensures
 
 pub returns-else-s-switch : goal.returns-else-s-switch
 returns-else-s-switch c =
     below_late (raised_year_biased c.ranges.year.fits) c.is_julian_leap.ensures c.julian_start-start.ensures
-    c.in-At.ensures c.if-s-switch.false
+    c.in-Some.ensures c.if-s-switch.false

@@ -8,16 +8,16 @@ pub returns-then-switch-start : goal.returns-then-switch-start
 returns-then-switch-start c = non_gregorian_year c.args.year c.gregorian_start-start.ensures c.if-switch-start.true
 
 pub month_in-new-requires : goal.month_in-new-requires
-month_in-new-requires c = let t = (ordinal_sum c.in-At.ensures).0 in ((t.0, t.1), search rules)
+month_in-new-requires c = let t = (ordinal_sum c.in-Some.ensures).0 in ((t.0, t.1), search rules)
 
 pub returns-then-new-switch : goal.returns-then-new-switch
 returns-then-new-switch c =
-    over_by_then c.args.year c.is_julian_leap.ensures c.is_gregorian_leap.ensures c.gregorian_start-start.ensures c.in-At.ensures c.month_in-new.ensures (omega arith)
+    over_by_then c.args.year c.is_julian_leap.ensures c.is_gregorian_leap.ensures c.gregorian_start-start.ensures c.in-Some.ensures c.month_in-new.ensures (omega arith)
 
-pub returns-in-Nothing : goal.returns-in-Nothing
-returns-in-Nothing c =
-    non_julian c.args.year c.is_julian_leap.ensures c.in-Nothing.ensures
+pub returns-in-None : goal.returns-in-None
+returns-in-None c =
+    non_julian c.args.year c.is_julian_leap.ensures c.in-None.ensures
 
 pub returns-else-new-switch : goal.returns-else-new-switch
 returns-else-new-switch c =
-    not_over_then c.args.year c.is_julian_leap.ensures c.is_gregorian_leap.ensures c.gregorian_start-start.ensures c.in-At.ensures c.month_in-new.ensures (omega arith)
+    not_over_then c.args.year c.is_julian_leap.ensures c.is_gregorian_leap.ensures c.gregorian_start-start.ensures c.in-Some.ensures c.month_in-new.ensures (omega arith)

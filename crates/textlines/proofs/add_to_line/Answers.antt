@@ -3,8 +3,8 @@ use native.Mathlib.Omega.{arith}
 use Rattle.textlines.specs.Laws.{adds_fits, adds_over}
 use Rattle.textlines.proofs.add_to_line.Goals as goal
 
-pub returns-in-To : goal.returns-in-To
-returns-in-To c = adds_fits (omega arith) c.in-To.ensures
+pub returns-in-Some : goal.returns-in-Some
+returns-in-Some c = adds_fits (omega arith) c.in-Some.ensures
 
-pub returns-in-NoRoom : goal.returns-in-NoRoom
-returns-in-NoRoom c = adds_over (omega arith) c.in-NoRoom.ensures
+pub returns-in-None : goal.returns-in-None
+returns-in-None c = adds_over (omega arith) c.in-None.ensures

@@ -6,13 +6,13 @@ use mir.Syntax.{w32, w64}
 use Rattle.unixtime.proofs.unix2jdn.Goals as goal
 use Rattle.unixtime.proofs.unix2jdn.Goals.{After-day_second}
 
-pub returns-in-At : goal.returns-in-At
-returns-in-At c =
-    let a = (goal.at.returns-in-At c).After-day_second in
-    rw (to_z-of_z {w = w32} {z = c.in-At.jdn} (search rules)) (day_time_row (rw (to_z-of_z {w = w64} a.ranges.t, c.in-At.is) at a.day_second.ensures))
+pub returns-in-Ok : goal.returns-in-Ok
+returns-in-Ok c =
+    let a = (goal.at.returns-in-Ok c).After-day_second in
+    rw (to_z-of_z {w = w32} {z = c.in-Ok.jdn} (search rules)) (day_time_row (rw (to_z-of_z {w = w64} a.ranges.t, c.in-Ok.is) at a.day_second.ensures))
 
-pub returns-in-Outside32 : goal.returns-in-Outside32
-returns-in-Outside32 c =
-    let a = (goal.at.returns-in-Outside32 c).After-day_second in
+pub returns-in-None : goal.returns-in-None
+returns-in-None c =
+    let a = (goal.at.returns-in-None c).After-day_second in
     let t = to_z-of_z {w = w64} a.ranges.t in
-    rw c.refusal_of.ensures (no_day_row t (rw (t, c.in-Outside32.is) at a.day_second.ensures))
+    rw c.refusal_of.ensures (no_day_row t (rw (t, c.in-None.is) at a.day_second.ensures))

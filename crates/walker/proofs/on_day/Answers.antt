@@ -17,12 +17,12 @@ returns-then-jdn-date c =
     let e = sym (to_z-of_z {w = w32} (sfits_of c.struct_told-1.given.1.1.1.1.1.1.1.0.1)) ∙ ap (to_z w32) (sym c.if-jdn-date.true) ∙ to_z-of_z {w = w32} a.ranges.jdn in
     subst (λ (n : ℤ). IsRecord a.args.date.calendar n a.args.date) e a.requires.is_record
 
-pub returns-in-Date : goal.returns-in-Date
-returns-in-Date c =
-    let b = (goal.at.returns-in-Date c).After-at_jdn in
-    is_given (rw (c.in-Date.is, to_z-of_z {w = w32} b.ranges.jdn) at b.at_jdn.ensures)
+pub returns-in-Ok : goal.returns-in-Ok
+returns-in-Ok c =
+    let b = (goal.at.returns-in-Ok c).After-at_jdn in
+    is_given (rw (c.in-Ok.is, to_z-of_z {w = w32} b.ranges.jdn) at b.at_jdn.ensures)
 
-pub returns-in-Refused : goal.returns-in-Refused
-returns-in-Refused c =
-    let b = (goal.at.returns-in-Refused c).After-at_jdn in
-    absurd (never_refused b.requires.accepted (rw c.in-Refused.is at b.at_jdn.ensures))
+pub returns-in-Err : goal.returns-in-Err
+returns-in-Err c =
+    let b = (goal.at.returns-in-Err c).After-at_jdn in
+    absurd (never_refused b.requires.accepted (rw c.in-Err.is at b.at_jdn.ensures))

@@ -2,11 +2,11 @@
 use mathlib.Core.Path.{ap}
 use Rattle.calendar.specs.Laws.{switch_runs, switch_made_up}
 use Rattle.calendar.specs.Rows.{refuses, passes}
-use Rattle.calendar.specs.declared.Told.TheVariants as Told'
 use Rattle.calendar.proofs.Calendar.is_reforming.Goals as goal
+use Rattle.std.specs.Prelude.{Ok}
 
-pub returns-in-MadeUp : goal.returns-in-MadeUp
-returns-in-MadeUp c = rw c.refusal_of.ensures (refuses (switch_made_up _ c.in-MadeUp.ensures))
+pub returns-in-Err : goal.returns-in-Err
+returns-in-Err c = rw c.refusal_of.ensures (refuses (switch_made_up _ c.in-Err.ensures))
 
-pub returns-in-At : goal.returns-in-At
-returns-in-At c = passes (switch_runs _ c.in-At.ensures).accepted (ap Told'.Is c.reforms.ensures)
+pub returns-in-Ok : goal.returns-in-Ok
+returns-in-Ok c = passes (switch_runs _ c.in-Ok.ensures).accepted (ap Ok c.reforms.ensures)

@@ -17,30 +17,29 @@ use Rattle.calendar.specs.Promise.{ReformRecord, never_julian, never_gregorian, 
 use Rattle.calendar.specs.Rows.{refuses, passes}
 use Rattle.calendar.specs.declared.Calendar.TheVariants as Calendar'
 use Rattle.calendar.specs.declared.Calendar.{Calendar}
-use Rattle.calendar.specs.declared.Switch.TheVariants as Switch'
-use Rattle.calendar.specs.declared.ReformDate.TheVariants as ReformDate'
 use Rattle.calendar.proofs.Calendar.reform_date.Goals as goal
+use Rattle.std.specs.Prelude.{Ok, Some, None}
 
-accepts : (k : Calendar) {s : ℕ} {r : ℤ} → SwitchIs k (Switch'.At s) → k ≡ Calendar'.Reforming r → Accepted (Calendar'.Reforming r)
+accepts : (k : Calendar) {s : ℕ} {r : ℤ} → SwitchIs k (Ok s) → k ≡ Calendar'.Reforming r → Accepted (Calendar'.Reforming r)
 accepts k p e = subst Accepted e (switch_runs k p).accepted
 
 pub overflow_sub-raised : goal.overflow_sub-raised
 overflow_sub-raised c =
     let f : SFits w32 c.in-Reforming.r = search rules in
-    omega (arith, reform_some c.raised.result (accepts c.args.self c.in-At.ensures c.in-Reforming.is) (c.raised.ensures ∙ to_z-of_z f), c.requires)
+    omega (arith, reform_some c.raised.result (accepts c.args.self c.in-Ok.ensures c.in-Reforming.is) (c.raised.ensures ∙ to_z-of_z f), c.requires)
 
 pub on_day-requires : goal.on_day-requires
 on_day-requires c =
-    subst (λ (k : Calendar). Runs (definition_of k) c.in-At.switch) c.in-Reforming.is (switch_runs _ c.in-At.ensures)
+    subst (λ (k : Calendar). Runs (definition_of k) c.in-Ok.switch) c.in-Reforming.is (switch_runs _ c.in-Ok.ensures)
 
-pub returns-in-MadeUp : goal.returns-in-MadeUp
-returns-in-MadeUp c = rw c.refusal_of.ensures (refuses (switch_made_up _ c.in-MadeUp.ensures))
+pub returns-in-Err : goal.returns-in-Err
+returns-in-Err c = rw c.refusal_of.ensures (refuses (switch_made_up _ c.in-Err.ensures))
 
 pub returns-in-Julian : goal.returns-in-Julian
-returns-in-Julian c = passes (switch_runs _ c.in-At.ensures).accepted (subst (λ (k : Calendar). ReformRecord (pos c.args.before) k ReformDate'.Never) (sym c.in-Julian.is) never_julian)
+returns-in-Julian c = passes (switch_runs _ c.in-Ok.ensures).accepted (subst (λ (k : Calendar). ReformRecord (pos c.args.before) k (Ok None)) (sym c.in-Julian.is) never_julian)
 
 pub returns-in-Gregorian : goal.returns-in-Gregorian
-returns-in-Gregorian c = passes (switch_runs _ c.in-At.ensures).accepted (subst (λ (k : Calendar). ReformRecord (pos c.args.before) k ReformDate'.Never) (sym c.in-Gregorian.is) never_gregorian)
+returns-in-Gregorian c = passes (switch_runs _ c.in-Ok.ensures).accepted (subst (λ (k : Calendar). ReformRecord (pos c.args.before) k (Ok None)) (sym c.in-Gregorian.is) never_gregorian)
 
 pub returns-in-Reforming : goal.returns-in-Reforming
 returns-in-Reforming c =
@@ -48,8 +47,8 @@ returns-in-Reforming c =
     let g : SFits w32 c.lowered-jdn.result = record { sfits = c.lowered-jdn.type_inv } in
     let x = c.raised.result in
     let b = c.args.before in
-    let h : b ≤ x = omega (arith, reform_some x (accepts c.args.self c.in-At.ensures c.in-Reforming.is) (c.raised.ensures ∙ to_z-of_z f), c.requires) in
+    let h : b ≤ x = omega (arith, reform_some x (accepts c.args.self c.in-Ok.ensures c.in-Reforming.is) (c.raised.ensures ∙ to_z-of_z f), c.requires) in
     let e : c.in-Reforming.r -ℤ pos b ≡ unbias (2 ^ 31) (x - b) = ap (λ (z : ℤ). z -ℤ pos b) (sym (c.raised.ensures ∙ to_z-of_z f)) ∙ unbias_back (2 ^ 31) x b h in
-    passes (switch_runs _ c.in-At.ensures).accepted
-    (subst (λ (k : Calendar). ReformRecord (pos b) k (ReformDate'.Date c.on_day.result)) (sym c.in-Reforming.is)
+    passes (switch_runs _ c.in-Ok.ensures).accepted
+    (subst (λ (k : Calendar). ReformRecord (pos b) k (Ok (Some c.on_day.result))) (sym c.in-Reforming.is)
     (reform_record (rw e (rw (to_z-of_z g, c.lowered-jdn.ensures) at c.on_day.ensures))))

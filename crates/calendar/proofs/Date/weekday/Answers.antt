@@ -10,8 +10,8 @@ use mir.Val.{SFits}
 use mir.Facts.{to_z-of_z}
 use Rattle.days.specs.DayByDay as D
 use Rattle.calendar.specs.Rows.{refuses, passes}
-use Rattle.calendar.specs.declared.Counted.TheVariants as Counted'
 use Rattle.calendar.proofs.Date.weekday.Goals as goal
+use Rattle.std.specs.Prelude.{Ok}
 
 genuine : (d : Date) {r : Bool} → r ≡ true → IsGenuine d r → Genuine d
 genuine d e h = rw e at h
@@ -22,7 +22,7 @@ made_up d e h = rw e at h
 pub returns-then-is_genuine : goal.returns-then-is_genuine
 returns-then-is_genuine c =
     let f : SFits w32 c.args.self.jdn = search rules in
-    passes (genuine c.args.self c.if-is_genuine.true c.is_genuine.ensures) (ap Counted'.Number (c.for_jdn.ensures ∙ ap D.weekday (to_z-of_z f)))
+    passes (genuine c.args.self c.if-is_genuine.true c.is_genuine.ensures) (ap Ok (c.for_jdn.ensures ∙ ap D.weekday (to_z-of_z f)))
 
 pub returns : goal.returns
 returns c = rw c.refusal_of.ensures (refuses (made_up c.args.self c.if-is_genuine.false c.is_genuine.ensures))

@@ -7,8 +7,8 @@ plain_label-requires c = c.requires.0
 pub later_label-requires : goal.later_label-requires
 later_label-requires c = (c.requires.1, c.in-Later.ensures)
 
-pub returns-in-At : goal.returns-in-At
-returns-in-At c = c.in-At.ensures
+pub returns-in-Ok : goal.returns-in-Ok
+returns-in-Ok c = c.in-Ok.ensures
 
-pub returns-in-Refused : goal.returns-in-Refused
-returns-in-Refused c = c.in-Refused.ensures
+pub returns-in-Err : goal.returns-in-Err
+returns-in-Err c = c.in-Err.ensures

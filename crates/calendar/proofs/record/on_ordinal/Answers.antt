@@ -10,14 +10,14 @@ ordinal_place-requires c = (c.args.calendar, c.requires)
 
 pub given-requires : goal.given-requires
 given-requires c =
-    let (i, e) = ordinal_placed c.in-At.ensures in
+    let (i, e) = ordinal_placed c.in-Ok.ensures in
     (place_some c.args.calendar c.requires (biased_year c.raised.result ∙ c.raised.ensures) i, place_record c.args.calendar c.requires (biased_year c.raised.result ∙ c.raised.ensures) i)
 
-pub returns-in-At : goal.returns-in-At
-returns-in-At c =
-    let (i, e) = ordinal_placed c.in-At.ensures in
+pub returns-in-Ok : goal.returns-in-Ok
+returns-in-Ok c =
+    let (i, e) = ordinal_placed c.in-Ok.ensures in
     place_ordinal c.args.calendar c.requires (biased_year c.raised.result ∙ c.raised.ensures ∙ to_z-of_z c.ranges.year) i e (rw (to_z-of_z c.ranges.year) at c.given.ensures)
 
-pub returns-in-Refused : goal.returns-in-Refused
-returns-in-Refused c =
-    off_row c.args.calendar c.requires c.raised.result (raised_year_biased c.raised.type_inv) (biased_year c.raised.result ∙ c.raised.ensures ∙ to_z-of_z c.ranges.year) c.in-Refused.ensures
+pub returns-in-Err : goal.returns-in-Err
+returns-in-Err c =
+    off_row c.args.calendar c.requires c.raised.result (raised_year_biased c.raised.type_inv) (biased_year c.raised.result ∙ c.raised.ensures ∙ to_z-of_z c.ranges.year) c.in-Err.ensures

@@ -5,10 +5,10 @@ use Rattle.calendar.specs.Natural.{reads_at, reads_none}
 use Rattle.calendar.proofs.record.reading.Goals as goal
 
 pub overflow_sub-result : goal.overflow_sub-result
-overflow_sub-result c = omega (arith, ordinal_some c.in-At.ensures)
+overflow_sub-result c = omega (arith, ordinal_some c.in-Some.ensures)
 
-pub returns-in-Nothing : goal.returns-in-Nothing
-returns-in-Nothing c = reads_none (ordinal_none c.in-Nothing.ensures)
+pub returns-in-None : goal.returns-in-None
+returns-in-None c = reads_none (ordinal_none c.in-None.ensures)
 
-pub returns-in-At : goal.returns-in-At
-returns-in-At c = let (v, e) = ordinal_sum c.in-At.ensures in reads_at v e
+pub returns-in-Some : goal.returns-in-Some
+returns-in-Some c = let (v, e) = ordinal_sum c.in-Some.ensures in reads_at v e

@@ -7,17 +7,17 @@ use Rattle.calendar.specs.Laws.{labelled_room, reads_new, reads_room, turned_non
 use Rattle.calendar.proofs.record.turned_label.Goals as goal
 use Rattle.calendar.proofs.record.turned_label.Goals.{After-first_day-first}
 
-spot_is : (c : After-first_day-first) → OnSpot c.args.switch c.in-At.s
+spot_is : (c : After-first_day-first) → OnSpot c.args.switch c.in-Some.s
 spot_is c =
-    reads_new (raised_year_biased c.ranges.year.fits) c.is_gregorian_leap.ensures c.gregorian_start-start.ensures c.in-At.ensures c.if-s-switch.false
+    reads_new (raised_year_biased c.ranges.year.fits) c.is_gregorian_leap.ensures c.gregorian_start-start.ensures c.in-Some.ensures c.if-s-switch.false
 
-room : (c : After-first_day-first) → (c.first_day-first.result ≤ c.in-At.s.biased) × (c.in-At.s.biased + 1 - c.first_day-first.result < 4_294_967_296)
+room : (c : After-first_day-first) → (c.first_day-first.result ≤ c.in-Some.s.biased) × (c.in-Some.s.biased + 1 - c.first_day-first.result < 4_294_967_296)
 room c =
-    reads_room (raised_year_biased c.ranges.year.fits) c.is_gregorian_leap.ensures c.gregorian_start-start.ensures c.in-At.ensures c.if-s-switch.false c.julian_start.ensures c.first_day-first.ensures
+    reads_room (raised_year_biased c.ranges.year.fits) c.is_gregorian_leap.ensures c.gregorian_start-start.ensures c.in-Some.ensures c.if-s-switch.false c.julian_start.ensures c.first_day-first.ensures
 
 pub returns-then-s-switch : goal.returns-then-s-switch
 returns-then-s-switch c =
-    turned_gap (raised_year_biased c.ranges.year.fits) c.is_gregorian_leap.ensures c.gregorian_start-start.ensures c.in-At.ensures c.if-s-switch.true
+    turned_gap (raised_year_biased c.ranges.year.fits) c.is_gregorian_leap.ensures c.gregorian_start-start.ensures c.in-Some.ensures c.if-s-switch.true
 
 pub overflow_add-result : goal.overflow_add-result
 overflow_add-result c = record { fits = omega (arith, labelled_room (spot_is (goal.at.overflow_add-result c).After-first_day-first)) }
@@ -31,13 +31,13 @@ overflow_mul-result c = record { fits = omega (arith, (room (goal.at.overflow_mu
 pub month_place-requires : goal.month_place-requires
 month_place-requires c = (spot_is (goal.at.month_place-requires c).After-first_day-first, c.if-s-switch.false)
 
-pub overflow_add-result-in-At : goal.overflow_add-result-in-At
-overflow_add-result-in-At c = record { fits = omega (arith, (room (goal.at.overflow_add-result-in-At c).After-first_day-first).1, c.month_place.ensures.0) }
+pub overflow_add-result-in-Some : goal.overflow_add-result-in-Some
+overflow_add-result-in-Some c = record { fits = omega (arith, (room (goal.at.overflow_add-result-in-Some c).After-first_day-first).1, c.month_place.ensures.0) }
 
-pub returns-in-Nothing : goal.returns-in-Nothing
-returns-in-Nothing c =
-    turned_none (raised_year_biased c.ranges.year.fits) c.is_gregorian_leap.ensures c.gregorian_start-start.ensures c.in-Nothing.ensures c.non_gregorian_refusal.ensures
+pub returns-in-None : goal.returns-in-None
+returns-in-None c =
+    turned_none (raised_year_biased c.ranges.year.fits) c.is_gregorian_leap.ensures c.gregorian_start-start.ensures c.in-None.ensures c.non_gregorian_refusal.ensures
 
 pub returns-else-s-switch : goal.returns-else-s-switch
 returns-else-s-switch c =
-    turned_at (raised_year_biased c.ranges.year.fits) c.is_gregorian_leap.ensures c.gregorian_start-start.ensures c.in-At.ensures c.if-s-switch.false c.julian_start.ensures c.first_day-first.ensures c.month_place.ensures.0 c.month_place.ensures.1
+    turned_at (raised_year_biased c.ranges.year.fits) c.is_gregorian_leap.ensures c.gregorian_start-start.ensures c.in-Some.ensures c.if-s-switch.false c.julian_start.ensures c.first_day-first.ensures c.month_place.ensures.0 c.month_place.ensures.1

@@ -11,16 +11,16 @@ use Rattle.datetext.specs.Usual.{if_at, lowered_year}
 use Rattle.datetext.proofs.usual.read_date.Goals as goal
 
 pub overflow_add-year : goal.overflow_add-year
-overflow_add-year c = omega (arith, (if_at c.in-At.ensures).small)
+overflow_add-year c = omega (arith, (if_at c.in-Some.ensures).small)
 
 pub usual_on-requires : goal.usual_on-requires
-usual_on-requires c = (if_at c.in-At.ensures).within
+usual_on-requires c = (if_at c.in-Some.ensures).within
 
-pub returns-in-At : goal.returns-in-At
-returns-in-At c =
+pub returns-in-Some : goal.returns-in-Some
+returns-in-Some c =
     let s = c.args.text.now in
-    let n = c.in-At.second in
+    let n = c.in-Some.second in
     read_meant
     (c.usual_on.ensures
-    ∙ ap (λ (y : ℤ). after_second s y n (the_number s n)) (to_z-of_z {w = w32} (record { sfits = c.lowered.type_inv }) ∙ c.lowered.ensures ∙ lowered_year c.in-At.year)
-    ∙ sym (if_at c.in-At.ensures).read)
+    ∙ ap (λ (y : ℤ). after_second s y n (the_number s n)) (to_z-of_z {w = w32} (record { sfits = c.lowered.type_inv }) ∙ c.lowered.ensures ∙ lowered_year c.in-Some.year)
+    ∙ sym (if_at c.in-Some.ensures).read)

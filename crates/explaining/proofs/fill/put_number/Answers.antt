@@ -7,8 +7,8 @@ use Rattle.explaining.specs.Laws.{number_done, number_never}
 use mir.Syntax.{w64}
 use Rattle.explaining.proofs.fill.put_number.Goals as goal
 
-pub returns-in-Done : goal.returns-in-Done
-returns-in-Done c = let r = to_z-of_z {w = w64} c.ranges.x in number_done _ (c.is_negative-negative.ensures ∙ ap is_negative_value r) (c.magnitude-n.ensures ∙ ap nat_abs r) c.magnitude-n.type_inv c.in-Done.ensures
+pub returns-in-Ok : goal.returns-in-Ok
+returns-in-Ok c = let r = to_z-of_z {w = w64} c.ranges.x in number_done _ (c.is_negative-negative.ensures ∙ ap is_negative_value r) (c.magnitude-n.ensures ∙ ap nat_abs r) c.magnitude-n.type_inv c.in-Ok.ensures
 
-pub returns-in-Refused : goal.returns-in-Refused
-returns-in-Refused c = absurd (number_never c.magnitude-n.type_inv c.requires c.in-Refused.ensures)
+pub returns-in-Err : goal.returns-in-Err
+returns-in-Err c = absurd (number_never c.magnitude-n.type_inv c.requires c.in-Err.ensures)
