@@ -16,6 +16,7 @@ use Rattle.switches.specs.declared.MonthSpan.{MonthSpan}
 use Rattle.refusals.specs.declared.Refusal.{Refusal}
 use Rattle.inner.specs.declared.Spot.{Spot}
 use Rattle.switches.specs.declared.reformation.ReformingError.{ReformingError}
+use Rattle.switches.specs.declared.reformation.ReformingError.TheVariants as ReformingError'
 
 -- the first day of a biased year, and the first day past it
 pub record YearSpan (r y a b : ℕ) : Type 0 where

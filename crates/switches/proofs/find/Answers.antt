@@ -5,8 +5,8 @@ use Rattle.switches.proofs.find.Goals as goal
 pub find_later-requires : goal.find_later-requires
 find_later-requires c = later_none c.in-Later.ensures
 
-pub returns-in-Ok : goal.returns-in-Ok
-returns-in-Ok c = old_found c.in-Ok.ensures
+pub returns-in-At : goal.returns-in-At
+returns-in-At c = old_found c.in-At.ensures
 
 pub returns-in-Nothing : goal.returns-in-Nothing
 returns-in-Nothing c =

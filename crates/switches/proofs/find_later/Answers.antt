@@ -6,7 +6,7 @@ use Rattle.switches.proofs.find_later.Goals as goal
 pub returns-then-switch-t : goal.returns-then-switch-t
 returns-then-switch-t c =
     new_found (raised_year_biased c.ranges.year.fits) c.is_gregorian_leap.ensures c.gregorian_start-start.ensures c.requires
-    c.in-Ok.ensures c.if-switch-t.true
+    c.in-Some.ensures c.if-switch-t.true
 
 pub returns-in-None : goal.returns-in-None
 returns-in-None c =
@@ -15,5 +15,5 @@ returns-in-None c =
 
 pub returns-else-switch-t : goal.returns-else-switch-t
 returns-else-switch-t c =
-    rw c.refusal_with-in-Ok.ensures (gap_found (raised_year_biased c.ranges.year.fits) c.is_gregorian_leap.ensures c.gregorian_start-start.ensures c.requires
-    c.in-Ok.ensures c.if-switch-t.false)
+    rw c.refusal_with-in-Some.ensures (gap_found (raised_year_biased c.ranges.year.fits) c.is_gregorian_leap.ensures c.gregorian_start-start.ensures c.requires
+    c.in-Some.ensures c.if-switch-t.false)
