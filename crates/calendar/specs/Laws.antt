@@ -50,7 +50,7 @@ use Rattle.inner.specs.declared.NoNumber.TheVariants as NoNumber'
 pub switch_accepted : {r : ℤ} {k : ℕ} → Judges r (Ok k) → SwitchIs (Reforming r) (Ok k)
 switch_accepted {k = k} (accepts_biased (all_three a) e) = subst (λ (r : ℤ). SwitchIs (Reforming r) (Ok k)) e (switches_at (reforming_runs k (subst AcceptedReformation (sym e) a)))
 
-pub switch_refused : {r : ℤ} {n : ℕ} → Judges r (Err n) → SwitchIs (Reforming r) (Err made_up)
+pub switch_refused : {r : ℤ} {e : ReformingError} → Judges r (Err e) → SwitchIs (Reforming r) (Err made_up)
 switch_refused {r} j = no_calendar not
   where
     not : ¬ Accepted (Reforming r)
@@ -214,18 +214,14 @@ module _ (c : Calendar) {r : ℕ} (runs : Runs (definition_of c) r) {y m d : ℕ
   refused_nowhere (finds_none n l o) = (on_none runs (biased_year_value y) m d e h n l o).0
 
 -- ---- A day that is found, in 32 bits
-pub given_biased : (c : Calendar) {k : ℕ} {n z : ℤ} {d : Date} → Lowers k (Ok n) → IsRecord c n d → Given c z (day k) (Ok d)
+pub given_biased : (c : Calendar) {k : ℕ} {n z : ℤ} {d : Date} → Lowers k (Some n) → IsRecord c n d → Given c z (day k) (Ok d)
 given_biased c (within w) i = passes (fits_biased w) (record_of i)
 
-pub lowered_day : {k : ℕ} {n : ℤ} → Lowers k (Ok n) → day k ≡ n
+pub lowered_day : {k : ℕ} {n : ℤ} → Lowers k (Some n) → day k ≡ n
 lowered_day (within w) = refl
 
-pub given_far : (c : Calendar) {k : ℕ} {z : ℤ} → Lowers k (Err NoNumber'.Outside32) → Given c z (day k) (refused 7 z)
+pub given_far : (c : Calendar) {k : ℕ} {z : ℤ} → Lowers k None → Given c z (day k) (refused 7 z)
 given_far c (beyond b) = refuses b
-
-pub given_none : {k : ℕ} {d : Result ℤ NoNumber} → d ≡ Err NoNumber'.Nothing → Lowers k d → ⊥
-given_none e (within w) = let z : ◌≡◌ {A = ℕ} 0 1 = cc in omega arith
-given_none e (beyond b) = let z : ◌≡◌ {A = ℕ} 0 1 = cc in omega arith
 
 -- a spot that was made of an ordinal is on its day
 pub spot_made : {leap_at : ℕ → Bool} {start : ℕ → ℕ} {k y o : ℕ} {b : Bool} {s : S.Spot} → BiasedYear (biased_year_value y) → InYear leap_at start k (biased_year_value y) o → b ≡ leap_at (biased_year_value y) → SpotAt k y o b s
@@ -245,6 +241,10 @@ switch_runs c (switches_at p) = p
 pub switch_made_up : (c : Calendar) → SwitchIs c (Err made_up) → ¬ Accepted c
 switch_made_up c (no_calendar n) = n
 
+-- a call that asks for the switch first is refused where there is none
+pub no_switch : {A : Type 0} (c : Calendar) {e : Refusal} {P : Result A Refusal → Type 0} → SwitchIs c (Err e) → Unless (Accepted c) (Err made_up) P (Err e)
+no_switch c (no_calendar n) = refuses n
+
 -- the first day of a month in the Julian reckoning
 pub julian_month_is : {leap : Bool} (y : ℕ) {m o t : ℕ} → leap ≡ J.leap_at y → t ≡ J.start y → OrdinalOf leap m 1 (Some o) → t + o - 1 ≡ julian_month_value y m
 julian_month_is {leap} y {m} {o} {t} e f p = sum (days_before_value leap m) (ordinal_sum p).1 ∙ ap₂ ◌+◌ f (ap (λ (b : Bool). days_before_value b m) e)
@@ -256,7 +256,7 @@ julian_month_is {leap} y {m} {o} {t} e f p = sum (days_before_value leap m) (ord
 pub reforms_accepted : {r : ℤ} {k : ℕ} → Judges r (Ok k) → Reforms r (Ok (Reforming r))
 reforms_accepted (accepts_biased j e) = judged j
 
-pub reforms_refused : {r : ℤ} {n : ℕ} → Judges r (Err n) → Reforms r (refused_reformation_value n r)
+pub reforms_refused : {r : ℤ} {e : ReformingError} → Judges r (Err e) → Reforms r (refused_reformation_value (number_of e) r)
 reforms_refused (refuses_with_1 j) = judged j
 reforms_refused (refuses_with_2 j) = judged j
 
@@ -503,7 +503,7 @@ module _ (c : Calendar) {r y : ℕ} (runs : Runs (definition_of c) r) {p : P.Day
       place : Place (λ d. OfYear z (labels c d)) (day (p.past - 1)) p.ordinal
       place = subst (λ (k : ℕ). Place (λ d. OfYear z (labels c d)) (day k) p.ordinal) biased_past there
 
-pub given_place : (c : Calendar) (p : P.DayInYear) {z n : ℤ} → Lowers (p.past - 1) (Ok n) → IsRecord c (day (p.past - 1)) (record_at c z p)
+pub given_place : (c : Calendar) (p : P.DayInYear) {z n : ℤ} → Lowers (p.past - 1) (Some n) → IsRecord c (day (p.past - 1)) (record_at c z p)
     → Given c z (day (p.past - 1)) (Ok (whole c z p.ordinal p.month p.day p.day_ordinal n p.style))
 unfolding whole
 given_place c p {z} w i =

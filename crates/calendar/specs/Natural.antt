@@ -14,8 +14,6 @@ use Rattle.calendar.specs.declared.Style.{Style}
 use Rattle.calendar.specs.declared.Style.TheVariants as Style'
 use Rattle.calendar.specs.declared.Date.{Date}
 use Rattle.calendar.specs.declared.record.DayInYear.{DayInYear}
-use Rattle.calendar.specs.declared.record.Early.{Early}
-use Rattle.calendar.specs.declared.record.Early.TheVariants as Early'
 use Rattle.inner.specs.declared.Spot.{Spot}
 use Rattle.inner.specs.Spots.{At, spot}
 use Rattle.calendar.specs.Calendars.{definition_of, Accepted}
@@ -96,10 +94,10 @@ PlacesLabel r y m d (Err f) = Finds r y m d (Err f)
 abbrev pub LaterLabel : ℕ → ℕ → ℕ → ℕ → Type 0
 LaterLabel r y m d = NoneBelow r y m d × (r ≤ J.start (biased_year_value y) → G.start (biased_year_value y) < r)
 
-abbrev pub PlacesEarly : ℕ → ℕ → ℕ → ℕ → Early → Type 0
-PlacesEarly r y m d (Early'.At p) = LabelAt r y m d p
-PlacesEarly r y m d (Early'.Refused f) = Finds r y m d (Err f)
-PlacesEarly r y m d Early'.Later = LaterLabel r y m d
+abbrev pub PlacesEarly : ℕ → ℕ → ℕ → ℕ → Option (Result DayInYear Refusal) → Type 0
+PlacesEarly r y m d (Some (Ok p)) = LabelAt r y m d p
+PlacesEarly r y m d (Some (Err f)) = Finds r y m d (Err f)
+PlacesEarly r y m d None = LaterLabel r y m d
 
 -- ---- From a place in a year
 

@@ -9,7 +9,7 @@ ghost use Rattle.std.proofs.Math.IntN.{suc_ℤ, pred_ℤ};
 ghost use Rattle.ways.specs.Promise.{toward};
 ghost use Rattle.days.specs.DayByDay.{weekday, JulianStyle, GregorianStyle};
 ghost use Rattle.calendar.specs.Calendars.{is_reforming_value, style_is_value};
-ghost use Rattle.calendar.specs.Promise.{refused, refused_reformation_value, Reforms, AtJdn, AtYmd, AtOrdinal, Next, ConvertsTo, IsGenuine, TellsCalendar, TellsDate, CountsDate, ReformationOf, reform_day_value, LastJulian, FirstGregorian};
+ghost use Rattle.calendar.specs.Promise.{made_up, Reforms, AtJdn, AtYmd, AtOrdinal, Next, ConvertsTo, IsGenuine, TellsCalendar, TellsDate, CountsDate, ReformationOf, reform_day_value, LastJulian, FirstGregorian};
 ghost use Rattle.calendar.specs.One.{whole};
 ghost use Rattle.calendar.specs.InMonth.{NextInMonth, IsUsual, IsOn, Movable, moved_by, OneOn, one_on_value};
 ghost use Rattle.calendar.specs.Natural.{SwitchIs, ReformDateOf, fields_of, style_number_value, style_at_value, is_of_style};
@@ -64,35 +64,16 @@ pub fn switch_of(calendar: Calendar) -> Result<u64, Refusal>
         Calendar::Gregorian => Ok(0),
         Calendar::Reforming(r) => match switches::reformation::judge(r) {
             Ok(day) => Ok(day),
-            Err(_) => Err(_),
+            Err(_) => Err(made_up()),
         },
     }
 }
 
-// ---- Refusals
-
-fn made_up() -> Result<Date, Refusal>
-    ensures { result ≡ refused 16 (pos 0) }
+// What a call answers that is given a record or a calendar that no accepted call gives.
+fn made_up() -> Refusal
+    ensures { result ≡ made_up }
 {
-    Err(refusal_of(16, 0))
-}
-
-fn refused_count(number: u32, value: u32) -> Result<Date, Refusal>
-    ensures { result ≡ refused number (pos value) }
-{
-    Err(refusals::refusal_with(number, value))
-}
-
-fn refused_reformation(number: u32, r: i32) -> Result<Calendar, Refusal>
-    ensures { result ≡ refused_reformation_value number r }
-{
-    Err(refusal_of(number, widened(r)))
-}
-
-fn refused_year(year: i32) -> Result<Date, Refusal>
-    ensures { result ≡ refused 7 year }
-{
-    Err(refusals::outside_32_bits(year))
+    refusal_of(16, 0)
 }
 
 // ---- Calendars
@@ -111,7 +92,7 @@ impl Calendar {
     {
         match switches::reformation::judge(r) {
             Ok(_) => Ok(Calendar::Reforming(r)),
-            Err(number) => refused_reformation(number, r),
+            Err(why) => Err(refusal_of(why.number(), widened(r))),
         }
     }
 
@@ -119,65 +100,47 @@ impl Calendar {
     pub fn at_jdn(self, jdn: i32) -> Result<Date, Refusal>
         ensures { AtJdn self jdn result }
     {
-        let calendar = self;
-        match switch_of(calendar) {
-            Err(_) => made_up(),
-            Ok(switch) => Ok(record::on_day(calendar, switch, jdn)),
-        }
+        let switch = switch_of(self)?;
+        Ok(record::on_day(self, switch, jdn))
     }
 
     // The date of a year, a month and a day of the month.
     pub fn at_ymd(self, year: i32, month: u32, day: u32) -> Result<Date, Refusal>
         ensures { AtYmd self year month day result }
     {
-        let calendar = self;
-        match switch_of(calendar) {
-            Err(_) => made_up(),
-            Ok(switch) => record::on_label(calendar, switch, year, month, day),
-        }
+        let switch = switch_of(self)?;
+        record::on_label(self, switch, year, month, day)
     }
 
     // The date of a year and a place in it, from 1.
     pub fn at_ordinal_date(self, year: i32, ordinal: u32) -> Result<Date, Refusal>
         ensures { AtOrdinal self year ordinal result }
     {
-        let calendar = self;
-        match switch_of(calendar) {
-            Err(_) => made_up(),
-            Ok(switch) => record::on_ordinal(calendar, switch, year, ordinal),
-        }
+        let switch = switch_of(self)?;
+        record::on_ordinal(self, switch, year, ordinal)
     }
 
     pub fn is_reforming(self) -> Result<bool, Refusal>
         ensures { TellsCalendar self (is_reforming_value self) result }
     {
-        let calendar = self;
-        match switch_of(calendar) {
-            Err(_) => Err(refusal_of(16, 0)),
-            Ok(_) => Ok(reforms(calendar)),
-        }
+        switch_of(self)?;
+        Ok(reforms(self))
     }
 
     // A calendar is proleptic that has one reckoning throughout.
     pub fn is_proleptic(self) -> Result<bool, Refusal>
         ensures { TellsCalendar self (not (is_reforming_value self)) result }
     {
-        let calendar = self;
-        match switch_of(calendar) {
-            Err(_) => Err(refusal_of(16, 0)),
-            Ok(_) => Ok(!reforms(calendar)),
-        }
+        switch_of(self)?;
+        Ok(!reforms(self))
     }
 
     // The first day with a Gregorian date.
     pub fn reformation(self) -> Result<Option<i32>, Refusal>
         ensures { ReformationOf self result }
     {
-        let calendar = self;
-        match switch_of(calendar) {
-            Err(_) => Err(refusal_of(16, 0)),
-            Ok(_) => reform_day(calendar),
-        }
+        switch_of(self)?;
+        Ok(reform_day(self))
     }
 
     pub fn last_julian_date(self) -> Result<Option<Date>, Refusal>
@@ -197,17 +160,14 @@ impl Calendar {
         requires { before ≤ 1 }
         ensures { ReformDateOf self before result }
     {
-        let calendar = self;
-        match switch_of(calendar) {
-            Err(_) => Err(refusal_of(16, 0)),
-            Ok(switch) => match calendar {
-                Calendar::Julian => Ok(None),
-                Calendar::Gregorian => Ok(None),
-                Calendar::Reforming(r) => {
-                    let jdn = lowered(raised(r) - before);
-                    Ok(Some(record::on_day(calendar, switch, jdn)))
-                }
-            },
+        let switch = switch_of(self)?;
+        match self {
+            Calendar::Julian => Ok(None),
+            Calendar::Gregorian => Ok(None),
+            Calendar::Reforming(r) => {
+                let jdn = lowered(raised(r) - before);
+                Ok(Some(record::on_day(self, switch, jdn)))
+            }
         }
     }
 }
@@ -222,13 +182,13 @@ fn reforms(calendar: Calendar) -> bool
     }
 }
 
-fn reform_day(calendar: Calendar) -> Result<Option<i32>, Refusal>
+fn reform_day(calendar: Calendar) -> Option<i32>
     ensures { result ≡ reform_day_value calendar }
 {
     match calendar {
-        Calendar::Julian => Ok(None),
-        Calendar::Gregorian => Ok(None),
-        Calendar::Reforming(r) => Ok(Some(r)),
+        Calendar::Julian => None,
+        Calendar::Gregorian => None,
+        Calendar::Reforming(r) => Some(r),
     }
 }
 
@@ -239,8 +199,7 @@ impl Date {
     pub fn is_genuine(self) -> bool
         ensures { IsGenuine self result }
     {
-        let calendar = self.calendar;
-        match calendar.at_jdn(self.jdn) {
+        match self.calendar.at_jdn(self.jdn) {
             Err(_) => false,
             Ok(given) => fields::same_fields(fields_of(self), fields_of(given)),
         }
@@ -252,7 +211,7 @@ impl Date {
         if self.is_genuine() {
             return Ok(weekday::for_jdn(self.jdn));
         }
-        Err(refusal_of(16, 0))
+        Err(made_up())
     }
 
     // The ordinal and the day ordinal, counted from 0.
@@ -287,7 +246,7 @@ impl Date {
         if self.is_genuine() {
             return calendar.at_jdn(self.jdn);
         }
-        made_up()
+        Err(made_up())
     }
 
     // The date of the next day, and of the day before.
@@ -311,14 +270,12 @@ impl Date {
 pub fn next_in_month(date: Date, later: bool) -> Option<Date>
     ensures { NextInMonth later date result }
 {
-    let calendar = date.calendar;
-    let style = date.style;
     // The two ways are written apart: each is then in line with its own numbers.
     if later {
         if ways::stays(true, date.day, date.jdn) {
             if is_usual(
-                calendar,
-                style,
+                date.calendar,
+                date.style,
                 date.year,
                 date.ordinal,
                 date.month,
@@ -333,8 +290,8 @@ pub fn next_in_month(date: Date, later: bool) -> Option<Date>
     }
     if ways::stays(false, date.day, date.jdn) {
         if is_usual(
-            calendar,
-            style,
+            date.calendar,
+            date.style,
             date.year,
             date.ordinal,
             date.month,
@@ -362,22 +319,21 @@ fn is_usual(
     ensures { IsUsual (whole calendar year ordinal month day day_ordinal jdn style) result }
 {
     is_usual_date(Date {
-        calendar: calendar,
-        style: style,
-        year: year,
-        ordinal: ordinal,
-        month: month,
-        day: day,
-        day_ordinal: day_ordinal,
-        jdn: jdn,
+        calendar,
+        style,
+        year,
+        ordinal,
+        month,
+        day,
+        day_ordinal,
+        jdn,
     })
 }
 
 fn is_usual_date(date: Date) -> bool
     ensures { IsUsual date result }
 {
-    let calendar = date.calendar;
-    match switch_of(calendar) {
+    match switch_of(date.calendar) {
         Err(_) => false,
         Ok(switch) => {
             let at = switches::year_in(switch, raised(date.year));
@@ -411,8 +367,7 @@ fn is_on(date: Date, switch: u64, past: u64, ordinal: u32) -> bool
     if today + 1 != past {
         return false;
     }
-    let style = date.style;
-    style_number(style) == style_number(style_at(switch, today))
+    style_number(date.style) == style_number(style_at(switch, today))
 }
 
 // The record with its day one further.
@@ -420,11 +375,9 @@ fn moved(date: Date, later: bool) -> Date
     requires { Movable later date }
     ensures { result ≡ moved_by later date }
 {
-    let calendar = date.calendar;
-    let style = date.style;
     Date {
-        calendar: calendar,
-        style: style,
+        calendar: date.calendar,
+        style: date.style,
         year: date.year,
         ordinal: one_on(later, date.ordinal),
         month: date.month,
@@ -458,13 +411,12 @@ fn beside(date: Date, way: Kind) -> Result<Date, Refusal>
     ensures { Next date (toward way date.jdn) result }
 {
     if date.is_genuine() {
-        let calendar = date.calendar;
         return match ways::day_ahead(way, date.jdn) {
-            None => refused_count(15, 0),
-            Some(jdn) => calendar.at_jdn(jdn),
+            None => Err(refusals::refusal_with(15, 0)),
+            Some(jdn) => date.calendar.at_jdn(jdn),
         };
     }
-    made_up()
+    Err(made_up())
 }
 
 // A number of a record, which has to be genuine, counted from 0 in place of 1.
@@ -474,30 +426,26 @@ fn from_0(date: Date, number: u32) -> Result<u32, Refusal>
     if date.is_genuine() {
         return Ok(one_less(number));
     }
-    Err(refusal_of(16, 0))
+    Err(made_up())
 }
 
 fn one_less(n: u32) -> u32
     ensures { result ≡ n - 1 }
 {
-    if n < 1 {
-        return 0;
-    }
-    n - 1
+    n.saturating_sub(1)
 }
 
 // What the day number and the calendar of a genuine record determine.
 fn fields_of(date: Date) -> Fields
     ensures { result ≡ fields_of date }
 {
-    let style = date.style;
     Fields {
         year: date.year,
         ordinal: date.ordinal,
         month: date.month,
         day: date.day,
         day_ordinal: date.day_ordinal,
-        style: style_number(style),
+        style: style_number(date.style),
     }
 }
 
@@ -528,8 +476,7 @@ fn has_style(date: Date, style: Style) -> Result<bool, Refusal>
     ensures { TellsDate date (is_of_style date style) result }
 {
     if date.is_genuine() {
-        let own = date.style;
-        return Ok(style_number(own) == style_number(style));
+        return Ok(style_number(date.style) == style_number(style));
     }
-    Err(refusal_of(16, 0))
+    Err(made_up())
 }

@@ -12,7 +12,6 @@ ghost use Rattle.calendar.specs.Natural.{SpotAt, OnSpot, plain_record_value, pla
 use crate::{Calendar, Date, Style};
 use inner::Spot;
 use refusals::Refusal;
-use inner::NoNumber;
 
 // ---- From a day to its record
 
@@ -49,9 +48,9 @@ fn spot_at(biased: u64, year: u32, ordinal: u32, leap: bool) -> Spot
 {
     let at = monthdays::month_day(leap, ordinal - 1);
     Spot {
-        biased: biased,
-        year: year,
-        ordinal: ordinal,
+        biased,
+        year,
+        ordinal,
         month: at.month,
         day: at.day,
     }
@@ -75,14 +74,14 @@ fn plain_record(calendar: Calendar, style: Style, s: Spot, jdn: i32) -> Date
     ensures { result ≡ plain_record_value calendar style s jdn }
 {
     Date {
-        calendar: calendar,
-        style: style,
+        calendar,
+        style,
         year: whole::lowered(s.year),
         ordinal: s.ordinal,
         month: s.month,
         day: s.day,
         day_ordinal: s.day,
-        jdn: jdn,
+        jdn,
     }
 }
 
@@ -103,14 +102,14 @@ fn reform_record(calendar: Calendar, switch: u64, s: Spot, jdn: i32) -> Date
         past - s.day as u64,
     );
     Date {
-        calendar: calendar,
+        calendar,
         style: Style::Gregorian,
         year: whole::lowered(s.year),
         ordinal: (past - year_first) as u32,
         month: s.month,
         day: s.day,
         day_ordinal: (past - month_first) as u32,
-        jdn: jdn,
+        jdn,
     }
 }
 
@@ -146,20 +145,18 @@ fn given(calendar: Calendar, year: i32, p: DayInYear) -> Result<Date, Refusal>
     requires { (1 ≤ p.past) × IsRecord calendar (day (p.past - 1)) (record_at calendar year p) }
     ensures { Given calendar year (day (p.past - 1)) result }
 {
-    let style = p.style;
     match inner::day_number(p.past - 1) {
-        Ok(jdn) => Ok(Date {
-            calendar: calendar,
-            style: style,
-            year: year,
+        Some(jdn) => Ok(Date {
+            calendar,
+            style: p.style,
+            year,
             ordinal: p.ordinal,
             month: p.month,
             day: p.day,
             day_ordinal: p.day_ordinal,
-            jdn: jdn,
+            jdn,
         }),
-        Err(NoNumber::Nothing) => crate::refused_year(year),
-        Err(NoNumber::Outside32) => crate::refused_year(year),
+        None => Err(refusals::outside_32_bits(year)),
     }
 }
 
@@ -174,7 +171,7 @@ fn plain_place(style: Style, s: Spot) -> DayInYear
         month: s.month,
         day: s.day,
         day_ordinal: s.day,
-        style: style,
+        style,
     }
 }
 
@@ -187,10 +184,10 @@ fn reading(leap: bool, start: u64, year: u32, month: u32, day: u32) -> Option<Sp
         None => None,
         Some(ordinal) => Some(Spot {
             biased: start + ordinal as u64 - 1,
-            year: year,
-            ordinal: ordinal,
-            month: month,
-            day: day,
+            year,
+            ordinal,
+            month,
+            day,
         }),
     }
 }
@@ -202,12 +199,10 @@ pub fn on_label(calendar: Calendar, switch: u64, year: i32, month: u32, day: u32
     ensures { AtYmd calendar year month day result }
 {
     if monthdays::is_month(month) {
-        return match label_place(switch, whole::raised(year), month, day) {
-            Ok(p) => given(calendar, year, p),
-            Err(refusal) => Err(refusal),
-        };
+        let p = label_place(switch, whole::raised(year), month, day)?;
+        return given(calendar, year, p);
     }
-    crate::refused_count(3, month)
+    Err(refusals::refusal_with(3, month))
 }
 
 fn label_place(switch: u64, year: u32, month: u32, day: u32) -> Result<DayInYear, Refusal>
@@ -215,22 +210,14 @@ fn label_place(switch: u64, year: u32, month: u32, day: u32) -> Result<DayInYear
     ensures { PlacesLabel switch year month day result }
 {
     match plain_label(switch, year, month, day) {
-        Early::At(p) => Ok(p),
-        Early::Refused(refusal) => Err(refusal),
-        Early::Later => later_label(switch, year, month, day),
+        Some(answer) => answer,
+        None => later_label(switch, year, month, day),
     }
 }
 
-// What is answered in line, or that the label is looked for from the switch on, in its year.
-#[derive(Clone, Copy)]
-enum Early {
-    At(DayInYear),
-    Refused(Refusal),
-    Later,
-}
-
-// A Julian day before the switch, and a day of a year that is wholly in one reckoning.
-fn plain_label(switch: u64, year: u32, month: u32, day: u32) -> Early
+// What is answered in line: a Julian day before the switch, and a day of a year that is wholly in one reckoning. Any other label is looked for from
+// the switch on, in its year.
+fn plain_label(switch: u64, year: u32, month: u32, day: u32) -> Option<Result<DayInYear, Refusal>>
     requires { SomeSwitch switch }
     ensures { PlacesEarly switch year month day result }
 {
@@ -239,26 +226,26 @@ fn plain_label(switch: u64, year: u32, month: u32, day: u32) -> Early
         return match reading(inner::is_julian_leap(year), old, year, month, day) {
             None => {
                 if old + 366 < switch {
-                    return Early::Refused(refusals::refusal_with(4, day));
+                    return Some(Err(refusals::refusal_with(4, day)));
                 }
-                Early::Later
+                None
             }
             Some(s) => {
                 if s.biased < switch {
-                    return Early::At(plain_place(Style::Julian, s));
+                    return Some(Ok(plain_place(Style::Julian, s)));
                 }
-                Early::Later
+                None
             }
         };
     }
     let new = inner::gregorian_start(year);
     if switch <= new {
         return match reading(inner::is_gregorian_leap(year), new, year, month, day) {
-            None => Early::Refused(refusals::refusal_with(4, day)),
-            Some(s) => Early::At(plain_place(Style::Gregorian, s)),
+            None => Some(Err(refusals::refusal_with(4, day))),
+            Some(s) => Some(Ok(plain_place(Style::Gregorian, s))),
         };
     }
-    Early::Later
+    None
 }
 
 // The label from the switch on; its year begins on its first Julian day or on the switch.
@@ -274,8 +261,8 @@ fn later_label(switch: u64, year: u32, month: u32, day: u32) -> Result<DayInYear
     Ok(DayInYear {
         past: first + t / PAIR,
         ordinal: (t / PAIR) as u32,
-        month: month,
-        day: day,
+        month,
+        day,
         day_ordinal: (t % PAIR) as u32,
         style: Style::Gregorian,
     })
@@ -296,10 +283,8 @@ pub fn on_ordinal(calendar: Calendar, switch: u64, year: i32, ordinal: u32) -> R
     requires { Runs (definition_of calendar) switch }
     ensures { AtOrdinal calendar year ordinal result }
 {
-    match ordinal_place(switch, whole::raised(year), ordinal) {
-        Ok(p) => given(calendar, year, p),
-        Err(refusal) => Err(refusal),
-    }
+    let p = ordinal_place(switch, whole::raised(year), ordinal)?;
+    given(calendar, year, p)
 }
 
 // A year that is wholly in one reckoning comes first, then the Julian days of the year of a switch.
@@ -330,8 +315,8 @@ fn ordinal_place(switch: u64, year: u32, ordinal: u32) -> Result<DayInYear, Refu
     }
     let t = turning(switch, year, 0, ordinal);
     Ok(DayInYear {
-        past: past,
-        ordinal: ordinal,
+        past,
+        ordinal,
         month: (t / PAIR / 32) as u32,
         day: (t / PAIR % 32) as u32,
         day_ordinal: (t % PAIR) as u32,

@@ -1,6 +1,6 @@
 -- From the arithmetic of the conversions to what they promise. A reckoning alone is a calendar with one run of days.
 -- Assumes nothing.
-use Rattle.std.specs.Prelude.{◌≡◌, refl, Bool, ℕ, ◌+◌, ◌-◌, ◌*◌, ◌/◌, ◌%◌, ◌<◌, ◌≤◌, ◌^◌, eqb, ℤ, Result, Ok, Err}
+use Rattle.std.specs.Prelude.{◌≡◌, refl, Bool, ℕ, ◌+◌, ◌-◌, ◌*◌, ◌/◌, ◌%◌, ◌<◌, ◌≤◌, ◌^◌, eqb, ℤ, Result, Option, Some, None, ok_or}
 use Rattle.std.proofs.Common.{sym, ◌∙◌, ap, subst, ⊎_elim, arith, add_comm, add-one, eq-eqb, ne_eqb, to_z, of_z}
 use Rattle.std.specs.Int.{w32}
 use Rattle.whole.specs.Tests.{lt_or_ge, eq_or_not}
@@ -166,7 +166,7 @@ module _ {c : Calendar} {r : ℕ} {reckoning : Reckoning} {leap_at : ℕ → Boo
   ordinal_answer {y} {o} {s} {d = d} h e f g n =
       subst (λ (z : ℤ). DayOfOrdinal (labels c) z o d) e (by (subst (λ (s : ℕ). OrdinalNumber (leap_at y) s o d) g (subst (λ (b : Bool). OrdinalNumber b s o d) f n)))
     where
-      lowered_is : {d : Result ℤ NoNumber} → 1 ≤ o → o ≤ year_length (leap_at y) → Lowers (start y + o - 1) d → DayOfOrdinal (labels c) (year y) o d
+      lowered_is : {d : Option ℤ} → 1 ≤ o → o ≤ year_length (leap_at y) → Lowers (start y + o - 1) d → DayOfOrdinal (labels c) (year y) o (ok_or d NoNumber'.Outside32)
       lowered_is u t (within w) = numbered (fits_biased w) (ordinal_day h u t)
       lowered_is u t (beyond b) = outside_32 b (ordinal_day h u t)
 
@@ -193,22 +193,22 @@ by_quarters k = record {
     short n = ⊎_elim (λ l. l) (λ g. absurd (n (fourth (4 * k / 1461) (k - 365 * (4 * k / 1461) - 365) (omega arith)))) (lt_or_ge (4 * k % 1461) 1460)
 
 -- ---- A biased day in 32 bits
-pub lowers_below : {k : ℕ} → k < 782_219_326_294 → Lowers k (Err NoNumber'.Outside32)
+pub lowers_below : {k : ℕ} → k < 782_219_326_294 → Lowers k None
 lowers_below {k} h = beyond (λ f. never (unbias_fits_only day_bias k f))
   where
     never : (day_bias ≤ k + 2 ^ 31) × (k < day_bias + 2 ^ 31) → ⊥
     never p = omega arith
 
-pub lowers_above : {k : ℕ} → 786_514_293_590 ≤ k → Lowers k (Err NoNumber'.Outside32)
+pub lowers_above : {k : ℕ} → 786_514_293_590 ≤ k → Lowers k None
 lowers_above {k} h = beyond (λ f. never (unbias_fits_only day_bias k f))
   where
     never : (day_bias ≤ k + 2 ^ 31) × (k < day_bias + 2 ^ 31) → ⊥
     never p = omega arith
 
-pub lowers_within : {k : ℕ} {z : ℤ} → 782_219_326_294 ≤ k → k < 786_514_293_590 → z ≡ unbias (2 ^ 31) (k - 782_219_326_294) → Lowers k (Ok (to_z w32 (of_z w32 z)))
+pub lowers_within : {k : ℕ} {z : ℤ} → 782_219_326_294 ≤ k → k < 786_514_293_590 → z ≡ unbias (2 ^ 31) (k - 782_219_326_294) → Lowers k (Some (to_z w32 (of_z w32 z)))
 lowers_within {k} {z} h g e =
     let w : BiasedDay k = record { from = h; to = g } in
-    subst (λ (z : ℤ). Lowers k (Ok z)) (sym (back (e ∙ same) (fits_biased w))) (within w)
+    subst (λ (z : ℤ). Lowers k (Some z)) (sym (back (e ∙ same) (fits_biased w))) (within w)
   where
     over : k - 782_219_326_294 + 782_219_326_294 ≡ k
     over = omega arith

@@ -1,6 +1,6 @@
 -- A promise of the conversions allows one result.
 -- Assumes nothing.
-use Rattle.std.specs.Prelude.{◌≡◌, refl, Bool, ℕ, ◌+◌, ℤ, Result, Ok}
+use Rattle.std.specs.Prelude.{◌≡◌, refl, Bool, ℕ, ◌+◌, ℤ, Result, Ok, Option}
 use Rattle.std.proofs.Common.{sym, ◌∙◌, ap, subst, arith}
 use Rattle.whole.specs.Biased.{unbias_injective}
 use Rattle.days.specs.DayByDay.{Label, Reckoning, Is32Bit}
@@ -45,7 +45,7 @@ in_year_one {start = start} s {k} y z {o} {p} a b =
     rest m n e f g = omega arith
 
 -- a biased day is of 32 bits, or it is not
-pub lowers_one : {k : ℕ} {r s : Result ℤ NoNumber} → Lowers k r → Lowers k s → r ≡ s
+pub lowers_one : {k : ℕ} {r s : Option ℤ} → Lowers k r → Lowers k s → r ≡ s
 lowers_one (within h) (within g) = refl
 lowers_one (within h) (beyond n) = absurd (n (fits_biased h))
 lowers_one (beyond n) (within g) = absurd (n (fits_biased g))

@@ -248,7 +248,7 @@ fn ordinal_number(leap: bool, start: u64, ordinal: u32) -> Result<i32, NoNumber>
     if days_in_year(leap) < ordinal {
         return Err(NoNumber::Nothing);
     }
-    day_number(start + ordinal as u64 - 1)
+    day_number(start + ordinal as u64 - 1).ok_or(NoNumber::Outside32)
 }
 
 // The first day of a raised year, 784366809942 above its number.
@@ -267,17 +267,17 @@ pub fn gregorian_start(year: u32) -> u64
     365 * y + (y + 3) / 4 + (centuries + 3) / 4 + YEAR_0 - centuries
 }
 
-// A day that is biased as so much more than its number, in 32 bits.
-pub fn day_number(day: u64) -> Result<i32, NoNumber>
+// The number of a day that is biased as so much more, where 32 bits hold it.
+pub fn day_number(day: u64) -> Option<i32>
     ensures { Lowers day result }
 {
     if day < LEAST_DAY {
-        return Err(NoNumber::Outside32);
+        return None;
     }
     if 786_514_293_590 <= day {
-        return Err(NoNumber::Outside32);
+        return None;
     }
-    Ok(lowered((day - LEAST_DAY) as u32))
+    Some(lowered((day - LEAST_DAY) as u32))
 }
 
 // ---- A day with its label

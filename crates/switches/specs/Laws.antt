@@ -1,7 +1,8 @@
 -- From the arithmetic of a label, of a year and of a month to what is said of them.
 -- Assumes nothing.
-use Rattle.std.specs.Prelude.{◌≡◌, Bool, true, ℕ, ◌+◌, ◌-◌, ◌/◌, ◌<◌, ◌≤◌, T, ltb, leb, pos, Ok, Err, Some, None}
+use Rattle.std.specs.Prelude.{◌≡◌, Bool, true, ℕ, ◌+◌, ◌-◌, ◌/◌, ◌<◌, ◌≤◌, T, ltb, leb, pos, Ok, Err, Some, None, Result}
 use Rattle.std.proofs.Common.{sym, ◌∙◌, ap, ap₂, subst, arith, add-one, ltb→lt, leb→le}
+use Rattle.refusals.specs.declared.Refusal.{Refusal}
 use Rattle.refusals.specs.Promise.{refusal}
 use Rattle.days.specs.DayByDay as D
 use Rattle.days.specs.DayByDay.{month_length, Month}
@@ -23,7 +24,6 @@ use Rattle.switches.specs.declared.MonthSpan.{MonthSpan}
 use Rattle.switches.specs.declared.PlainMonth.{PlainMonth}
 use Rattle.inner.specs.declared.Spot as S
 use Rattle.inner.specs.Spots.{At, spot, at_number}
-use Rattle.switches.specs.declared.Below.TheVariants as Below'
 use Rattle.switches.specs.Promise.{YearSpan, YearIn, begins_old, begins_new, month_span, SpansMonth, spans_month, NoneBelow, NotOver, Finds, finds_old, finds_new, finds_gap, finds_none, RefusesNonGregorian, taken_away, never_there}
 use Rattle.switches.specs.Private.{MonthIn, Reads, reads_at, reads_none, ReadsBelow, below_at, below_none, below_later}
 
@@ -55,13 +55,13 @@ julian_none y {m} {d} n = finds_none (λ t. n (there_too (biased_year_value y) m
 
 module _ {r y m d t : ℕ} {b : Bool} (h : BiasedYear (biased_year_value y)) where
   -- in the Julian reckoning
-  pub below_found : {s : S.Spot} → b ≡ J.leap_at (biased_year_value y) → t ≡ J.start (biased_year_value y) → Reads b t y m d (Some s) → s.biased < r → ReadsBelow r y m d (Below'.At s)
+  pub below_found : {s : S.Spot} → b ≡ J.leap_at (biased_year_value y) → t ≡ J.start (biased_year_value y) → Reads b t y m d (Some s) → s.biased < r → ReadsBelow r y m d (Some (Ok s))
   below_found e f (reads_at v q) g = below_at g (read_at J.leap_at J.start y m d h e f v q)
 
-  pub below_late : {s : S.Spot} → b ≡ J.leap_at (biased_year_value y) → t ≡ J.start (biased_year_value y) → Reads b t y m d (Some s) → r ≤ s.biased → ReadsBelow r y m d Below'.Later
+  pub below_late : {s : S.Spot} → b ≡ J.leap_at (biased_year_value y) → t ≡ J.start (biased_year_value y) → Reads b t y m d (Some s) → r ≤ s.biased → ReadsBelow r y m d None
   below_late e f (reads_at v q) g = below_later (λ i. subst (λ (n : ℕ). r ≤ n) (sym (at_number (read_at J.leap_at J.start y m d h e f v q))) g)
 
-  pub below_not : b ≡ J.leap_at (biased_year_value y) → t ≡ J.start (biased_year_value y) → Reads b t y m d None → ReadsBelow r y m d Below'.Nothing
+  pub below_not : b ≡ J.leap_at (biased_year_value y) → t ≡ J.start (biased_year_value y) → Reads b t y m d None → ReadsBelow r y m d (Some (Err (refusal 4 0 (pos d))))
   below_not e f (reads_none n) = below_none (read_none J.leap_at J.start y m d h e f n)
 
   -- in the calendar, from r on
@@ -80,20 +80,18 @@ module _ {r y m d t : ℕ} {b : Bool} (h : BiasedYear (biased_year_value y)) whe
     none_found (reads_none x) (never_there g) = finds_none (read_none G.leap_at G.start y m d h e f x) n g
 
 -- no Julian day of a year that begins from r on is before r
-pub below_year : {r y m d t : ℕ} → t ≡ J.start (biased_year_value y) → r ≤ t → ReadsBelow r y m d Below'.Later
+pub below_year : {r y m d t : ℕ} → t ≡ J.start (biased_year_value y) → r ≤ t → ReadsBelow r y m d None
 below_year {r} {y} {m} {d} f g = below_later (λ i. after (days_before_value (J.leap_at (biased_year_value y)) m) (subst (λ (n : ℕ). r ≤ n) f g) i.2)
   where
     after : (k : ℕ) {s : ℕ} → r ≤ s → 1 ≤ d → r ≤ s + k + d - 1
     after k g i = omega arith
 
 -- what is below r says of the calendar
-pub old_found : {r y m d : ℕ} {s : S.Spot} → ReadsBelow r y m d (Below'.At s) → Finds r y m d (Ok s)
-old_found (below_at g a) = finds_old g a
+pub below_answered : {r y m d : ℕ} {a : Result S.Spot Refusal} → ReadsBelow r y m d (Some a) → Finds r y m d a
+below_answered (below_at g a) = finds_old g a
+below_answered {y = y} (below_none n) = julian_none y n
 
-pub neither_found : {r m d : ℕ} (y : ℕ) → ReadsBelow r y m d Below'.Nothing → Finds r y m d (Err (refusal 4 0 (pos d)))
-neither_found y (below_none n) = julian_none y n
-
-pub later_none : {r y m d : ℕ} → ReadsBelow r y m d Below'.Later → NoneBelow r y m d
+pub later_none : {r y m d : ℕ} → ReadsBelow r y m d None → NoneBelow r y m d
 later_none (below_later n) = n
 
 -- ---- The days of a year

@@ -156,35 +156,27 @@ pub fn find(switch: u64, year: u32, month: u32, day: u32) -> Result<Spot, Refusa
     ensures { Finds switch year month day result }
 {
     match julian_below(switch, year, month, day) {
-        Below::At(s) => Ok(s),
-        Below::Nothing => Err(refusal_with(4, day)),
-        Below::Later => find_later(switch, year, month, day),
+        Some(answer) => answer,
+        None => find_later(switch, year, month, day),
     }
 }
 
-// The day of a label in the Julian reckoning, where that is before the switch; or that this reckoning does not have it; or that it is to be looked
-// for from the switch on. A year that begins from the switch on has no Julian day before it.
-#[derive(Clone, Copy)]
-enum Below {
-    At(Spot),
-    Nothing,
-    Later,
-}
-
-fn julian_below(switch: u64, year: u32, month: u32, day: u32) -> Below
+// The day of a label in the Julian reckoning, where that is before the switch, or its refusal, where this reckoning does not have it. Else it is to
+// be looked for from the switch on. A year that begins from the switch on has no Julian day before it.
+fn julian_below(switch: u64, year: u32, month: u32, day: u32) -> Option<Result<Spot, Refusal>>
     ensures { ReadsBelow switch year month day result }
 {
     let start = inner::julian_start(year);
     if switch <= start {
-        return Below::Later;
+        return None;
     }
     match reading(inner::is_julian_leap(year), start, year, month, day) {
-        None => Below::Nothing,
+        None => Some(Err(refusal_with(4, day))),
         Some(s) => {
             if s.biased < switch {
-                return Below::At(s);
+                return Some(Ok(s));
             }
-            Below::Later
+            None
         }
     }
 }

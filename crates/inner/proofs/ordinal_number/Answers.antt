@@ -10,4 +10,4 @@ pub returns-then-days_in_year-ordinal : goal.returns-then-days_in_year-ordinal
 returns-then-days_in_year-ordinal c = off_year (λ p. omega (arith, p.1, c.days_in_year.ensures))
 
 pub returns : goal.returns
-returns c = on_year c.if-ordinal-lt1.false (omega (arith, c.if-days_in_year-ordinal.false, c.days_in_year.ensures)) c.day_number.ensures
+returns c = rw c.ok_or.ensures.value (on_year c.if-ordinal-lt1.false (omega (arith, c.if-days_in_year-ordinal.false, c.days_in_year.ensures)) c.day_number.ensures)

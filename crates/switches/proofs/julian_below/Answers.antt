@@ -13,8 +13,8 @@ returns-then-s-switch c =
 
 pub returns-in-None : goal.returns-in-None
 returns-in-None c =
-    below_not (raised_year_biased c.ranges.year.fits) c.is_julian_leap.ensures c.julian_start-start.ensures
-    c.in-None.ensures
+    rw c.refusal_with.ensures (below_not (raised_year_biased c.ranges.year.fits) c.is_julian_leap.ensures c.julian_start-start.ensures
+    c.in-None.ensures)
 
 pub returns-else-s-switch : goal.returns-else-s-switch
 returns-else-s-switch c =
