@@ -39,12 +39,12 @@ use Rattle.switches.specs.Laws.{starts_close, Wholly, wholly_old, wholly_new, wh
 use Rattle.refusals.specs.declared.Refusal.{Refusal}
 use Rattle.ways.specs.Promise.{IsNeighbour, there, nowhere}
 use Rattle.calendar.specs.Calendars.{definition_of, labels, Accepted, style_of, IsRecord, Genuine, same_style, style_is_value}
-use Rattle.calendar.specs.Rows.{refuses, passes}
-use Rattle.calendar.specs.Promise.{refusal, refused, refused_reformation_value, Reforms, judged, RecordOf, record_of, Given, on_label, ByOrdinal, OffYear, on_ordinal, AtJdn, AtYmd, AtOrdinal, IsGenuine, TellsDate, Next, ConvertsTo, OfALabel}
+use Rattle.calendar.specs.Rows.{refuses, passes, Unless}
+use Rattle.switches.specs.declared.reformation.ReformingError.{ReformingError}
+use Rattle.switches.specs.Promise.{number_of}
+use Rattle.calendar.specs.Promise.{made_up, refusal, refused, refused_reformation_value, Reforms, judged, RecordOf, record_of, Given, on_label, ByOrdinal, OffYear, on_ordinal, AtJdn, AtYmd, AtOrdinal, IsGenuine, TellsDate, Next, ConvertsTo, OfALabel}
 use Rattle.calendar.specs.One.{whole, record_one}
 use Rattle.calendar.specs.Natural.{SwitchIs, switches_at, no_calendar, SomeSwitch, LabelledAt, old, new, OnSpot, plain_record_value, Plain, SpotAt, IsPlace, plain_place_value, record_at, ReadsLabel, reads_at, reads_none, LabelAt, LaterLabel, PlacesOrdinal, ordinal_at_place, ordinal_off, LaterOrdinal, pair, TurnsLabel, turns_at, turns_gap, turns_none, TurnsOrdinal, turns_day, Turns, style_at_value, style_number_value, fields_of, is_of_style}
-use Rattle.inner.specs.declared.NoNumber.{NoNumber}
-use Rattle.inner.specs.declared.NoNumber.TheVariants as NoNumber'
 
 -- ---- Where a calendar switches
 pub switch_accepted : {r : ℤ} {k : ℕ} → Judges r (Ok k) → SwitchIs (Reforming r) (Ok k)
@@ -238,7 +238,7 @@ spot_new {r} h g p e q = subst (OnSpot r) (sym q.is) (new g (spot_made h p e q))
 pub switch_runs : (c : Calendar) {r : ℕ} → SwitchIs c (Ok r) → Runs (definition_of c) r
 switch_runs c (switches_at p) = p
 
-pub switch_made_up : (c : Calendar) → SwitchIs c (Err made_up) → ¬ Accepted c
+pub switch_made_up : (c : Calendar) {e : Refusal} → SwitchIs c (Err e) → ¬ Accepted c
 switch_made_up c (no_calendar n) = n
 
 -- a call that asks for the switch first is refused where there is none

@@ -95,8 +95,7 @@ abbrev pub LaterLabel : ℕ → ℕ → ℕ → ℕ → Type 0
 LaterLabel r y m d = NoneBelow r y m d × (r ≤ J.start (biased_year_value y) → G.start (biased_year_value y) < r)
 
 abbrev pub PlacesEarly : ℕ → ℕ → ℕ → ℕ → Option (Result DayInYear Refusal) → Type 0
-PlacesEarly r y m d (Some (Ok p)) = LabelAt r y m d p
-PlacesEarly r y m d (Some (Err f)) = Finds r y m d (Err f)
+PlacesEarly r y m d (Some a) = PlacesLabel r y m d a
 PlacesEarly r y m d None = LaterLabel r y m d
 
 -- ---- From a place in a year

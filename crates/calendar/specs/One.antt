@@ -88,12 +88,12 @@ pub tells_calendar_one : (c : Calendar) (b : Bool) → One (TellsCalendar c b)
 tells_calendar_one c b = unless_one (λ a. answers_one _)
 
 pub reformation_one : (c : Calendar) → One (ReformationOf c)
-reformation_one c = unless_one (λ a. answers_one (reform_day_value c))
+reformation_one c = unless_one (λ a. answers_one (Ok (reform_day_value c)))
 
 reform_record_one : (before : ℤ) (c : Calendar) → One (ReformRecord before c)
 reform_record_one before Calendar'.Julian a b never_julian never_julian = refl
 reform_record_one before Calendar'.Gregorian a b never_gregorian never_gregorian = refl
-reform_record_one before (Calendar'.Reforming r) a b (reform_record p) (reform_record q) = ap (λ (k : ℕ). Ok (Some k)) (record_one p q)
+reform_record_one before (Calendar'.Reforming r) a b (reform_record p) (reform_record q) = ap (λ (d : Date). Ok (Some d)) (record_one p q)
 
 pub last_julian_one : (c : Calendar) → One (LastJulian c)
 last_julian_one c = unless_one (λ a. reform_record_one _ c)

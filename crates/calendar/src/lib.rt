@@ -340,12 +340,7 @@ fn is_usual_date(date: Date) -> bool
             if at.whole {
                 return match monthdays::md2ordinal(at.leap, date.month, date.day) {
                     None => false,
-                    Some(ordinal) => is_on(
-                        date,
-                        switch,
-                        at.first + ordinal as u64,
-                        ordinal,
-                    ),
+                    Some(ordinal) => is_on(date, switch, at.first + ordinal as u64, ordinal),
                 };
             }
             false

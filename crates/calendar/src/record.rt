@@ -194,7 +194,13 @@ fn reading(leap: bool, start: u64, year: u32, month: u32, day: u32) -> Option<Sp
 
 // ---- From a label to its day
 
-pub fn on_label(calendar: Calendar, switch: u64, year: i32, month: u32, day: u32) -> Result<Date, Refusal>
+pub fn on_label(
+    calendar: Calendar,
+    switch: u64,
+    year: i32,
+    month: u32,
+    day: u32,
+) -> Result<Date, Refusal>
     requires { Runs (definition_of calendar) switch }
     ensures { AtYmd calendar year month day result }
 {

@@ -1,2 +1,3 @@
 -- Refusals by their three numbers.
 pub mod Promise
+pub mod Passed

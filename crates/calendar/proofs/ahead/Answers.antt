@@ -8,7 +8,7 @@ use Rattle.calendar.specs.Promise.{Next}
 use Rattle.calendar.proofs.ahead.Goals as goal
 use Rattle.std.specs.Prelude.{Ok}
 
-pub returns-in-Ok : goal.returns-in-Ok
-returns-in-Ok c =
-    subst (λ (n : ℤ). Next c.args.date n (Ok c.in-Ok.next)) (ahead_is c.args.way c.args.date.jdn)
-    (near_next (goes_later_value c.args.way) (rw c.goes_later.ensures at c.in-Ok.ensures))
+pub returns-in-Some : goal.returns-in-Some
+returns-in-Some c =
+    subst (λ (n : ℤ). Next c.args.date n (Ok c.in-Some.next)) (ahead_is c.args.way c.args.date.jdn)
+    (near_next (goes_later_value c.args.way) (rw c.goes_later.ensures at c.in-Some.ensures))

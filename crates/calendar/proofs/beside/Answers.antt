@@ -21,7 +21,7 @@ made_up d e h = rw e at h
 pub returns-in-None : goal.returns-in-None
 returns-in-None c =
     let f : SFits w32 c.args.date.jdn = search rules in
-    rw c.refused_count.ensures (passes (genuine c.args.date c.if-is_genuine.true c.is_genuine.ensures) (refuses (nowhere_outside (rw (to_z-of_z f) at c.in-None.ensures))))
+    rw c.refusal_with.ensures (passes (genuine c.args.date c.if-is_genuine.true c.is_genuine.ensures) (refuses (nowhere_outside (rw (to_z-of_z f) at c.in-None.ensures))))
 
 pub returns-in-Some : goal.returns-in-Some
 returns-in-Some c =

@@ -16,4 +16,4 @@ pub returns-then-is_genuine : goal.returns-then-is_genuine
 returns-then-is_genuine c = passes (genuine (goal.at.returns-then-is_genuine c).Then-is_genuine) (ap Ok c.one_less.ensures)
 
 pub returns : goal.returns
-returns c = rw c.refusal_of.ensures (refuses (made_up (goal.at.returns c).Else-is_genuine))
+returns c = rw c.made_up.ensures (refuses (made_up (goal.at.returns c).Else-is_genuine))

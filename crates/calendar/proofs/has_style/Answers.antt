@@ -7,4 +7,4 @@ pub returns-then-is_genuine : goal.returns-then-is_genuine
 returns-then-is_genuine c = rw (c.style_number.ensures, c.style_number-then-is_genuine.ensures) (passes (rw c.if-is_genuine.true at c.is_genuine.ensures) refl)
 
 pub returns : goal.returns
-returns c = rw c.refusal_of.ensures (refuses (rw c.if-is_genuine.false at c.is_genuine.ensures))
+returns c = rw c.made_up.ensures (refuses (rw c.if-is_genuine.false at c.is_genuine.ensures))

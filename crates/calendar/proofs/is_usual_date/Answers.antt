@@ -20,12 +20,12 @@ returns-in-None c =
     λ g. none_genuine c.args.date c.raised.result (switch_runs _ c.in-Ok.ensures) (raised_year_biased c.raised.type_inv) (biased_year c.raised.result ∙ c.raised.ensures ∙ to_z-of_z f) (year_wholly c.year_in-at.ensures c.if-at.true)
     c.in-None.ensures g.0
 
-pub returns-in-Ok-md2ordinal : goal.returns-in-Ok-md2ordinal
-returns-in-Ok-md2ordinal c =
+pub returns-in-Some : goal.returns-in-Some
+returns-in-Some c =
     let f : SFits w32 c.args.date.year = search rules in
     let e = biased_year c.raised.result ∙ c.raised.ensures ∙ to_z-of_z f in
     usual_by c.args.date c.raised.result (switch_runs _ c.in-Ok.ensures) (raised_year_biased c.raised.type_inv) e (year_wholly c.year_in-at.ensures c.if-at.true)
-    c.in-Ok-md2ordinal.ensures
+    c.in-Some.ensures
     (record { switch = c.in-Ok.switch; biased_year = c.raised.result; at = c.year_in-at.result; runs = switch_runs _ c.in-Ok.ensures; year_is = e; year_in = c.year_in-at.ensures; wholly = c.if-at.true })
     c.is_on.result c.is_on.ensures
 

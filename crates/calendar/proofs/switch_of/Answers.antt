@@ -8,6 +8,7 @@ use mir.Facts.{to_z-of_z}
 use Rattle.days.proofs.ClosedRuns.{julian_runs, gregorian_runs}
 use Rattle.switches.specs.Promise.{Judges}
 use Rattle.calendar.specs.Laws.{switch_accepted, switch_refused}
+use Rattle.calendar.specs.Promise.{made_up}
 use Rattle.calendar.specs.Natural.{SwitchIs, switches_at}
 use Rattle.calendar.specs.declared.Calendar.{Calendar}
 use Rattle.calendar.proofs.switch_of.Goals as goal
@@ -28,5 +29,5 @@ returns-in-Ok c =
 pub returns-in-Err : goal.returns-in-Err
 returns-in-Err c =
     let f : SFits w32 c.in-Reforming.r = search rules in
-    subst (λ (x : Calendar). SwitchIs x (Err made_up)) (sym c.in-Reforming.is)
-    (switch_refused (subst (λ (r : ℤ). Judges r (Err c.in-Err.field-0)) (to_z-of_z f) c.in-Err.ensures))
+    rw c.made_up.ensures (subst (λ (x : Calendar). SwitchIs x (Err made_up)) (sym c.in-Reforming.is)
+    (switch_refused (subst (λ (r : ℤ). Judges r (Err c.in-Err.field-0)) (to_z-of_z f) c.in-Err.ensures)))

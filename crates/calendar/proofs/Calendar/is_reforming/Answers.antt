@@ -1,12 +1,13 @@
 -- `calendar::Calendar::is_reforming` meets its promise.
+use Rattle.refusals.specs.Passed.{passed_on}
 use mathlib.Core.Path.{ap}
-use Rattle.calendar.specs.Laws.{switch_runs, switch_made_up}
-use Rattle.calendar.specs.Rows.{refuses, passes}
+use Rattle.calendar.specs.Laws.{switch_runs, no_switch}
+use Rattle.calendar.specs.Rows.{passes}
 use Rattle.calendar.proofs.Calendar.is_reforming.Goals as goal
 use Rattle.std.specs.Prelude.{Ok}
 
-pub returns-in-Err : goal.returns-in-Err
-returns-in-Err c = rw c.refusal_of.ensures (refuses (switch_made_up _ c.in-Err.ensures))
+pub returns-in_err-switch_of : goal.returns-in_err-switch_of
+returns-in_err-switch_of c = rw (passed_on _ c.from_residual.ensures.1) (no_switch _ c.in_err-switch_of.ensures)
 
-pub returns-in-Ok : goal.returns-in-Ok
-returns-in-Ok c = passes (switch_runs _ c.in-Ok.ensures).accepted (ap Ok c.reforms.ensures)
+pub returns : goal.returns
+returns c = passes (switch_runs _ c.in_ok-switch_of.ensures).accepted (ap Ok c.reforms.ensures)

@@ -1,6 +1,8 @@
 -- `calendar::Calendar::reforming` meets its promise.
 use mathlib.Core.Path.{sym, subst}
 use lib.IntN.{ℤ}
+use mir.Syntax.{w64}
+use mir.Val.{SFits}
 use mir.Facts.{to_z-of_z}
 use Rattle.switches.specs.Promise.{Judges}
 use Rattle.calendar.specs.Laws.{reforms_accepted, reforms_refused}
@@ -16,5 +18,6 @@ returns-in-Ok c =
 
 pub returns-in-Err : goal.returns-in-Err
 returns-in-Err c =
-    rw (c.refused_reformation.ensures, to_z-of_z c.ranges.r)
-    (reforms_refused (subst (λ (r : ℤ). Judges r (Err c.in-Err.number)) (to_z-of_z c.ranges.r) c.in-Err.ensures))
+    let f : SFits w64 c.widened.result = record { sfits = c.widened.type_inv } in
+    rw (c.refusal_of.ensures, c.number.ensures, to_z-of_z f, c.widened.ensures, to_z-of_z c.ranges.r)
+    (reforms_refused (subst (λ (r : ℤ). Judges r (Err c.in-Err.why)) (to_z-of_z c.ranges.r) c.in-Err.ensures))

@@ -25,4 +25,4 @@ returns-then-is_genuine c =
     passes (genuine c.args.self c.if-is_genuine.true c.is_genuine.ensures) (ap Ok (c.for_jdn.ensures ∙ ap D.weekday (to_z-of_z f)))
 
 pub returns : goal.returns
-returns c = rw c.refusal_of.ensures (refuses (made_up c.args.self c.if-is_genuine.false c.is_genuine.ensures))
+returns c = rw c.made_up.ensures (refuses (made_up c.args.self c.if-is_genuine.false c.is_genuine.ensures))

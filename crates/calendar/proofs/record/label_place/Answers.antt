@@ -5,10 +5,7 @@ pub plain_label-requires : goal.plain_label-requires
 plain_label-requires c = c.requires.0
 
 pub later_label-requires : goal.later_label-requires
-later_label-requires c = (c.requires.1, c.in-Later.ensures)
+later_label-requires c = (c.requires.1, c.in-None.ensures)
 
-pub returns-in-Ok : goal.returns-in-Ok
-returns-in-Ok c = c.in-Ok.ensures
-
-pub returns-in-Err : goal.returns-in-Err
-returns-in-Err c = c.in-Err.ensures
+pub returns-in-Some : goal.returns-in-Some
+returns-in-Some c = c.in-Some.ensures

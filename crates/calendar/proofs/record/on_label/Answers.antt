@@ -1,4 +1,5 @@
 -- `calendar::record::on_label` meets its promise.
+use Rattle.refusals.specs.Passed.{passed_on}
 use mathlib.Core.Path.{◌∙◌}
 use mir.Facts.{to_z-of_z}
 use Rattle.inner.specs.Laws.{biased_year, raised_year_biased}
@@ -12,17 +13,18 @@ label_place-requires c = ((c.args.calendar, c.requires), rw c.if-is_month.true a
 
 pub given-requires : goal.given-requires
 given-requires c =
-    let (i, e, f) = c.in-Ok.ensures in
+    let (i, e, f) = c.in_ok-p.ensures in
     (place_some c.args.calendar c.requires (biased_year c.raised.result ∙ c.raised.ensures) i, place_record c.args.calendar c.requires (biased_year c.raised.result ∙ c.raised.ensures) i)
 
-pub returns-in-Ok : goal.returns-in-Ok
-returns-in-Ok c =
-    let (i, e, f) = c.in-Ok.ensures in
+pub returns-then-is_month : goal.returns-then-is_month
+returns-then-is_month c =
+    let (i, e, f) = c.in_ok-p.ensures in
     place_ymd c.args.calendar c.requires (biased_year c.raised.result ∙ c.raised.ensures ∙ to_z-of_z c.ranges.year) i e f (rw (to_z-of_z c.ranges.year) at c.given.ensures)
 
-pub returns-in-Err : goal.returns-in-Err
-returns-in-Err c =
-    passes c.requires.accepted (passes (rw c.if-is_month.true at c.is_month.ensures) (refused_row c.args.calendar c.requires (raised_year_biased c.raised.type_inv) (biased_year c.raised.result ∙ c.raised.ensures ∙ to_z-of_z c.ranges.year) Err c.in-Err.ensures))
+pub returns-in_err-p : goal.returns-in_err-p
+returns-in_err-p c =
+    rw (passed_on _ c.from_residual.ensures.1)
+    (passes c.requires.accepted (passes (rw c.if-is_month.true at c.is_month.ensures) (refused_row c.args.calendar c.requires (raised_year_biased c.raised.type_inv) (biased_year c.raised.result ∙ c.raised.ensures ∙ to_z-of_z c.ranges.year) Err c.in_err-p.ensures)))
 
 pub returns : goal.returns
-returns c = rw c.refused_count.ensures (passes c.requires.accepted (refuses (rw c.if-is_month.false at c.is_month.ensures)))
+returns c = rw c.refusal_with.ensures (passes c.requires.accepted (refuses (rw c.if-is_month.false at c.is_month.ensures)))
