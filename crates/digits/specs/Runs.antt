@@ -86,8 +86,11 @@ module _ (limit at : ℕ) where
   run_within [] e = let z : ◌≡◌ {A = ℕ} 0 1 = cc in absurd (omega arith)
   run_within (b ∷ p) {n} {next} e = go (nat_le (value_of (b ∷ p)) limit) refl e
     where
-      go : (t : Bool) → nat_le (value_of (b ∷ p)) limit ≡ t → pick t (Ok (value_of (b ∷ p), at + length (b ∷ p))) (Err (NoRun'.Over (left_at limit 0 at (b ∷ p)))) ≡ Ok (n, next) → n ≤ limit
-      go true k e = let q : value_of (b ∷ p) ≡ n = cc in omega (arith, leb-true (value_of (b ∷ p)) limit k)
+      go : (t : Bool) → nat_le (value_of (b ∷ p)) limit ≡ t → pick {A = Result (ℕ × ℕ) NoRun} t (Ok (value_of (b ∷ p), at + length (b ∷ p))) (Err (NoRun'.Over (left_at limit 0 at (b ∷ p)))) ≡ Ok (n, next) → n ≤ limit
+      go true k e =
+          let q : ◌≡◌ {A = ℕ × ℕ} (value_of (b ∷ p), at + length (b ∷ p)) (n, next) = cc in
+          let m : value_of (b ∷ p) ≡ n = ap (λ (x : ℕ × ℕ). x.0) q in
+          omega (arith, leb-true (value_of (b ∷ p)) limit k)
       go false k e = let z : ◌≡◌ {A = ℕ} 0 1 = cc in absurd (omega arith)
 
   pub run_ends : (p : List ℕ) (n i : ℕ) → n ≡ value_of p → i ≡ at + length p → n ≤ limit → ends_of n at i ≡ run_from limit at p

@@ -33,7 +33,8 @@ fn run_ends(n: u64, at: usize, i: usize) -> Result<(u64, usize), NoRun>
     }
 }
 
-// The number that the digits at a place write, and the place after them. The range is 0 to `limit`. A number only grows with its digits, so the first digit that takes it out of the range decides.
+// The number that the digits at a place write, and the place after them. The range is 0 to `limit`. A number only grows with its digits, so the first
+// digit that takes it out of the range decides.
 #[tactic(auto, using(crate::specs::Runs::along_over, crate::specs::Runs::along_step, crate::specs::Runs::digit_is))]
 pub fn run_at(s: &[u8], at: usize, limit: u32) -> Result<(u64, usize), NoRun>
     ensures { result ≡ run_of limit at (drop at s.now) }
