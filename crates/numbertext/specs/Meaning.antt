@@ -129,9 +129,9 @@ signed_complete {at} (SignedFrom.number w st) = by w st
     by : {p : List ℕ} {y : ℤ} → Signed p y → {u : List ℕ} → Stops u → read_signed at (p ++ u) ≡ Ok (y, at + length p)
     by (Signed.plain w h) {u} st = after_digits at u w.digits w.some (λ none. ap (to_signed false none) (run_is (limit_of false) at w st (omega arith)))
     by (Signed.with_plus {p} {n} w h) {u} st =
-        after_plus at (p ++ u) ∙ ap (to_signed false (refusal 10 at (pos 0))) (run_is (limit_of false) (at + 1) w st (omega arith)) ∙ ap ((λ (k : ℕ). Ok ((pos n), k))) (omega arith)
+        after_plus at (p ++ u) ∙ ap (to_signed false (refusal 10 at (pos 0))) (run_is (limit_of false) (at + 1) w st (omega arith)) ∙ ap (λ (k : ℕ). Ok (pos n, k)) (omega arith)
     by (Signed.with_dash {p} {n} w h) {u} st =
-        after_dash at (p ++ u) ∙ ap (to_signed true (refusal 10 at (pos 0))) (run_is (limit_of true) (at + 1) w st (omega arith)) ∙ ap ((λ (k : ℕ). Ok ((neg_ℤ (pos n)), k))) (omega arith)
+        after_dash at (p ++ u) ∙ ap (to_signed true (refusal 10 at (pos 0))) (run_is (limit_of true) (at + 1) w st (omega arith)) ∙ ap (λ (k : ℕ). Ok (neg_ℤ (pos n), k)) (omega arith)
 signed_complete {at} (SignedFrom.no_number h) = by h
   where
     by : {u : List ℕ} {f : Refusal} → NoSigned at u f → read_signed at u ≡ Err f
@@ -175,39 +175,39 @@ end_complete EndFrom.left_over = refl
 
 -- ---- at a place: said once for the four kinds of read
 
-module _ {A : Type 0} (refuse : Refusal → A) (From : ℕ → List ℕ → A → Type 0) (f : ℕ → List ℕ → A) where
-  at_sound : ((at : ℕ) (u : List ℕ) → From at u (f at u)) → (s : List ℕ) (at : ℕ) {r : A} → r ≡ placed refuse f s at → At refuse From s at r
-  at_sound sound s at {r} e = subst (At refuse From s at) (sym e) (go (ltb (length s) at) refl)
+module _ {A : Type 0} (From : ℕ → List ℕ → Result A Refusal → Type 0) (f : ℕ → List ℕ → Result A Refusal) where
+  at_sound : ((at : ℕ) (u : List ℕ) → From at u (f at u)) → (s : List ℕ) (at : ℕ) {r : Result A Refusal} → r ≡ placed f s at → At From s at r
+  at_sound sound s at {r} e = subst (At From s at) (sym e) (go (ltb (length s) at) refl)
     where
-      go : (t : Bool) → ltb (length s) at ≡ t → At refuse From s at (placed refuse f s at)
-      go true h = subst (At refuse From s at) (sym (placed_past refuse f s at (ltb-true _ _ h))) (At.past (ltb-true _ _ h))
-      go false h = subst (At refuse From s at) (sym (placed_in refuse f s at (ltb-false _ _ h))) (At.within (ltb-false _ _ h) (sound at (drop at s)))
+      go : (t : Bool) → ltb (length s) at ≡ t → At From s at (placed f s at)
+      go true h = subst (At From s at) (sym (placed_past f s at (ltb-true _ _ h))) (At.past (ltb-true _ _ h))
+      go false h = subst (At From s at) (sym (placed_in f s at (ltb-false _ _ h))) (At.within (ltb-false _ _ h) (sound at (drop at s)))
 
-  at_complete : ((at : ℕ) (u : List ℕ) (r : A) → From at u r → f at u ≡ r) → {s : List ℕ} {at : ℕ} {r : A} → At refuse From s at r → placed refuse f s at ≡ r
-  at_complete complete {s} {at} (At.past h) = placed_past refuse f s at h
-  at_complete complete {s} {at} (At.within h w) = placed_in refuse f s at h ∙ complete at (drop at s) _ w
+  at_complete : ((at : ℕ) (u : List ℕ) (r : Result A Refusal) → From at u r → f at u ≡ r) → {s : List ℕ} {at : ℕ} {r : Result A Refusal} → At From s at r → placed f s at ≡ r
+  at_complete complete {s} {at} (At.past h) = placed_past f s at h
+  at_complete complete {s} {at} (At.within h w) = placed_in f s at h ∙ complete at (drop at s) _ w
 
 module _ {s : List ℕ} {at : ℕ} where
   pub number_meant : {r : Result (ℕ × ℕ) Refusal} → r ≡ the_number s at → NumberAt s at r
-  number_meant = at_sound Err NumberFrom read_number number_sound s at
+  number_meant = at_sound NumberFrom read_number number_sound s at
 
   pub number_is : {r : Result (ℕ × ℕ) Refusal} → NumberAt s at r → r ≡ the_number s at
-  number_is h = sym (at_complete Err NumberFrom read_number (λ at u r w. number_complete w) h)
+  number_is h = sym (at_complete NumberFrom read_number (λ at u r w. number_complete w) h)
 
   pub signed_meant : {r : Result (ℤ × ℕ) Refusal} → r ≡ the_signed s at → SignedAt s at r
-  signed_meant = at_sound Err SignedFrom read_signed signed_sound s at
+  signed_meant = at_sound SignedFrom read_signed signed_sound s at
 
   pub signed_is : {r : Result (ℤ × ℕ) Refusal} → SignedAt s at r → r ≡ the_signed s at
-  signed_is h = sym (at_complete Err SignedFrom read_signed (λ at u r w. signed_complete w) h)
+  signed_is h = sym (at_complete SignedFrom read_signed (λ at u r w. signed_complete w) h)
 
   pub dash_meant : {r : Result ℕ Refusal} → r ≡ the_dash s at → DashAt s at r
-  dash_meant = at_sound Err DashFrom read_dash dash_sound s at
+  dash_meant = at_sound DashFrom read_dash dash_sound s at
 
   pub dash_is : {r : Result ℕ Refusal} → DashAt s at r → r ≡ the_dash s at
-  dash_is h = sym (at_complete Err DashFrom read_dash (λ at u r w. dash_complete w) h)
+  dash_is h = sym (at_complete DashFrom read_dash (λ at u r w. dash_complete w) h)
 
   pub end_meant : {r : Result ⊤ Refusal} → r ≡ the_end s at → EndAt s at r
-  end_meant = at_sound Err EndFrom read_end end_sound s at
+  end_meant = at_sound EndFrom read_end end_sound s at
 
   pub end_is : {r : Result ⊤ Refusal} → EndAt s at r → r ≡ the_end s at
-  end_is h = sym (at_complete Err EndFrom read_end (λ at u r w. end_complete w) h)
+  end_is h = sym (at_complete EndFrom read_end (λ at u r w. end_complete w) h)

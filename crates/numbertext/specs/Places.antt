@@ -16,29 +16,28 @@ use Rattle.digits.specs.Promise.{pick, front, run_from, run_of}
 use Rattle.digits.specs.Runs.{pick_yes, pick_no, at_cons, front_end, run_empty, run_value, run_within}
 use Rattle.numbertext.specs.Reading.{placed, ended_at_value, no_number_value, to_number, read_number, the_number, limit_of, way_out_value, to_signed, signed_run_value, read_signed, the_signed, read_dash, the_dash, read_end, the_end}
 use Rattle.whole.specs.declared.Outside.{Outside}
-use Rattle.whole.specs.declared.Outside.TheVariants as Outside'
 use Rattle.digits.specs.declared.NoRun.{NoRun}
 use Rattle.digits.specs.declared.NoRun.TheVariants as NoRun'
 
 -- ---- where a place stands
 
-module _ {A : Type 0} (refuse : Refusal → A) (f : ℕ → List ℕ → A) (s : List ℕ) (at : ℕ) where
-  pub placed_past : length s < at → placed refuse f s at ≡ refuse (refusal 16 0 (pos 0))
+module _ {A : Type 0} (f : ℕ → List ℕ → Result A Refusal) (s : List ℕ) (at : ℕ) where
+  pub placed_past : length s < at → placed f s at ≡ Err (refusal 16 0 (pos 0))
   unfolding placed
   placed_past h = pick_yes _ _ (lt-ltb _ _ h)
 
-  pub placed_in : at ≤ length s → placed refuse f s at ≡ f at (drop at s)
+  pub placed_in : at ≤ length s → placed f s at ≡ f at (drop at s)
   unfolding placed
   placed_in h = pick_no _ _ (le-ltb _ _ h)
 
-  pub placed_on : at < length s → placed refuse f s at ≡ f at (get_or s at 0 ∷ drop (at + 1) s)
+  pub placed_on : at < length s → placed f s at ≡ f at (get_or s at 0 ∷ drop (at + 1) s)
   placed_on h = placed_in (omega arith) ∙ ap (f at) (at_cons s at h)
 
-  pub placed_end : (number : ℕ) → f at [] ≡ refuse (refusal number at (pos 0)) → length s ≤ at → placed refuse f s at ≡ refuse (ended_at_value number s at)
+  pub placed_end : (number : ℕ) → f at [] ≡ Err (refusal number at (pos 0)) → length s ≤ at → placed f s at ≡ Err (ended_at_value number s at)
   unfolding placed
-  placed_end number e h = ap (λ (u : List ℕ). pick (ltb (length s) at) (refuse (refusal 16 0 (pos 0))) (f at u)) (drop_of_length-le s h) ∙ go (ltb (length s) at)
+  placed_end number e h = ap (λ (u : List ℕ). pick {A = Result A Refusal} (ltb (length s) at) (Err (refusal 16 0 (pos 0))) (f at u)) (drop_of_length-le s h) ∙ go (ltb (length s) at)
     where
-      go : (t : Bool) → pick t (refuse (refusal 16 0 (pos 0))) (f at []) ≡ refuse (pick t (refusal 16 0 (pos 0)) (refusal number at (pos 0)))
+      go : (t : Bool) → pick {A = Result A Refusal} t (Err (refusal 16 0 (pos 0))) (f at []) ≡ Err (pick t (refusal 16 0 (pos 0)) (refusal number at (pos 0)))
       go true = refl
       go false = e
 
@@ -47,7 +46,7 @@ module _ {A : Type 0} (refuse : Refusal → A) (f : ℕ → List ℕ → A) (s :
 module _ (s : List ℕ) (at : ℕ) {r : Result (ℕ × ℕ) NoRun} (e : r ≡ run_of 4294967295 at (drop at s)) where
   number_by : at ≤ length s → the_number s at ≡ to_number at (drop at s) r
   unfolding read_number
-  number_by h = placed_in Err read_number s at h ∙ ap (to_number at (drop at s)) (sym e)
+  number_by h = placed_in read_number s at h ∙ ap (to_number at (drop at s)) (sym e)
 
   -- a run that is not empty lies within
   some_within : (r ≡ Err NoRun'.Empty → ⊥) → at ≤ length s
@@ -74,7 +73,7 @@ module _ (s : List ℕ) (at : ℕ) {r : Result (ℕ × ℕ) NoRun} (e : r ≡ ru
 
 pub number_end : (s : List ℕ) (at : ℕ) → length s ≤ at → the_number s at ≡ Err (ended_at_value 8 s at)
 unfolding read_number
-number_end s at h = placed_end Err read_number s at 8 (ap (to_number at []) (run_empty 4294967295 at)) h
+number_end s at h = placed_end read_number s at 8 (ap (to_number at []) (run_empty 4294967295 at)) h
 
 -- ---- a signed number
 
@@ -111,15 +110,12 @@ module _ (neg : Bool) (first : ℕ) (none : Refusal) (u : List ℕ) {limit : ℕ
         let is : y ≡ signed_of neg n = let f = narrowed in cc in
         ap (λ (z : ℤ). Ok (z, next)) (back is (signed_fits neg n within)) ∙ sym (signed_as v)
 
-    pub never_above : x ≡ Err Outside'.Above → {q : Result (ℤ × ℕ) Refusal} → q ≡ signed_run_value neg first none u
-    never_above k = let f = narrowed in let z : ◌≡◌ {A = ℕ} 0 1 = cc in absurd (omega arith)
-
-    pub never_below : x ≡ Err Outside'.Below → {q : Result (ℤ × ℕ) Refusal} → q ≡ signed_run_value neg first none u
-    never_below k = let f = narrowed in let z : ◌≡◌ {A = ℕ} 0 1 = cc in absurd (omega arith)
+    pub never_outside : {why : Outside} → x ≡ Err why → {q : Result (ℤ × ℕ) Refusal} → q ≡ signed_run_value neg first none u
+    never_outside k = let f = narrowed in let z : ◌≡◌ {A = ℕ} 0 1 = cc in absurd (omega arith)
 
 module _ (s : List ℕ) (at : ℕ) (h : at < length s) where
   signed_on : the_signed s at ≡ read_signed at (get_or s at 0 ∷ drop (at + 1) s)
-  signed_on = placed_on Err read_signed s at h
+  signed_on = placed_on read_signed s at h
 
   pub signed_dash : get_or s at 0 ≡ dash → the_signed s at ≡ signed_run_value true (at + 1) (refusal 10 at (pos 0)) (drop (at + 1) s)
   unfolding read_signed
@@ -137,33 +133,33 @@ module _ (s : List ℕ) (at : ℕ) (h : at < length s) where
 
 pub signed_end : (s : List ℕ) (at : ℕ) → length s ≤ at → the_signed s at ≡ Err (ended_at_value 8 s at)
 unfolding read_signed
-signed_end s at h = placed_end Err read_signed s at 8 refl h
+signed_end s at h = placed_end read_signed s at 8 refl h
 
 -- ---- a `-`, and the end
 
 module _ (s : List ℕ) (at : ℕ) where
   pub dash_yes : at < length s → get_or s at 0 ≡ dash → the_dash s at ≡ Ok (at + 1)
   unfolding read_dash
-  dash_yes h e = placed_on Err read_dash s at h ∙ pick_yes _ _ (eq-eqb _ _ e)
+  dash_yes h e = placed_on read_dash s at h ∙ pick_yes _ _ (eq-eqb _ _ e)
 
   pub dash_other : at < length s → (get_or s at 0 ≡ dash → ⊥) → the_dash s at ≡ Err (refusal 12 at (pos (get_or s at 0)))
   unfolding read_dash
-  dash_other h e = placed_on Err read_dash s at h ∙ pick_no _ _ (ne_eqb _ _ e)
+  dash_other h e = placed_on read_dash s at h ∙ pick_no _ _ (ne_eqb _ _ e)
 
   pub dash_end : length s ≤ at → the_dash s at ≡ Err (ended_at_value 13 s at)
   unfolding read_dash
-  dash_end h = placed_end Err read_dash s at 13 refl h
+  dash_end h = placed_end read_dash s at 13 refl h
 
   pub end_over : at < length s → the_end s at ≡ Err (refusal 14 at (pos (get_or s at 0)))
   unfolding read_end
-  end_over h = placed_on Err read_end s at h
+  end_over h = placed_on read_end s at h
 
   pub end_past : length s < at → the_end s at ≡ Err (refusal 16 0 (pos 0))
-  end_past h = placed_past Err read_end s at h
+  end_past h = placed_past read_end s at h
 
   pub end_reached : at ≤ length s → length s ≤ at → the_end s at ≡ Ok tt
   unfolding read_end
-  end_reached h k = placed_in Err read_end s at h ∙ ap (read_end at) (drop_of_length-le s k)
+  end_reached h k = placed_in read_end s at h ∙ ap (read_end at) (drop_of_length-le s k)
 
 -- ---- the number n that the digits p write, and the place after them
 

@@ -29,18 +29,18 @@ pub data EndFrom (at : ℕ) : List ℕ → Result ⊤ Refusal → Type 0 where
   left_over : {b : ℕ} {u : List ℕ} → EndFrom at (b ∷ u) (Err (refusal 14 at (pos b)))
 
 -- ---- a read at a place of the bytes s: a place past them is refused 16, and from any other the bytes decide
-pub data At {A : Type 0} (refuse : Refusal → A) (From : ℕ → List ℕ → A → Type 0) (s : List ℕ) (at : ℕ) : A → Type 0 where
-  past : length s < at → At refuse From s at (refuse (refusal 16 0 (pos 0)))
-  within : {r : A} → at ≤ length s → From at (drop at s) r → At refuse From s at r
+pub data At {A : Type 0} (From : ℕ → List ℕ → Result A Refusal → Type 0) (s : List ℕ) (at : ℕ) : Result A Refusal → Type 0 where
+  past : length s < at → At From s at (Err (refusal 16 0 (pos 0)))
+  within : {r : Result A Refusal} → at ≤ length s → From at (drop at s) r → At From s at r
 
 abbrev pub NumberAt : List ℕ → ℕ → Result (ℕ × ℕ) Refusal → Type 0
-NumberAt = At Err NumberFrom
+NumberAt = At NumberFrom
 
 abbrev pub SignedAt : List ℕ → ℕ → Result (ℤ × ℕ) Refusal → Type 0
-SignedAt = At Err SignedFrom
+SignedAt = At SignedFrom
 
 abbrev pub DashAt : List ℕ → ℕ → Result ℕ Refusal → Type 0
-DashAt = At Err DashFrom
+DashAt = At DashFrom
 
 abbrev pub EndAt : List ℕ → ℕ → Result ⊤ Refusal → Type 0
-EndAt = At Err EndFrom
+EndAt = At EndFrom

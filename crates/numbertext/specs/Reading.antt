@@ -10,8 +10,8 @@ use Rattle.digits.specs.declared.NoRun.{NoRun}
 use Rattle.digits.specs.declared.NoRun.TheVariants as NoRun'
 
 -- ---- at a place of s, what f finds in the bytes from there on; a place past the bytes is refused 16
-unfoldable pub placed : {A : Type 0} → (Refusal → A) → (ℕ → List ℕ → A) → List ℕ → ℕ → A
-placed refuse f s at = pick (ltb (length s) at) (refuse (refusal 16 0 (pos 0))) (f at (drop at s))
+unfoldable pub placed : {A : Type 0} → (ℕ → List ℕ → Result A Refusal) → List ℕ → ℕ → Result A Refusal
+placed f s at = pick (ltb (length s) at) (Err (refusal 16 0 (pos 0))) (f at (drop at s))
 
 -- the text ends where something is expected, or the place is past it
 abbrev pub ended_at_value : ℕ → List ℕ → ℕ → Refusal
@@ -32,7 +32,7 @@ unfoldable pub read_number : ℕ → List ℕ → Result (ℕ × ℕ) Refusal
 read_number at u = to_number at u (run_of 4294967295 at u)
 
 abbrev pub the_number : List ℕ → ℕ → Result (ℕ × ℕ) Refusal
-the_number s at = placed Err read_number s at
+the_number s at = placed read_number s at
 
 -- ---- a signed number: neg says whether a `-` stands before the digits
 
@@ -64,7 +64,7 @@ read_signed at (b ∷ u) =
     (signed_run_value false at (refusal 9 at (pos b)) (b ∷ u)))
 
 abbrev pub the_signed : List ℕ → ℕ → Result (ℤ × ℕ) Refusal
-the_signed s at = placed Err read_signed s at
+the_signed s at = placed read_signed s at
 
 -- ---- a `-`, and the end
 
@@ -73,11 +73,11 @@ read_dash at [] = Err (refusal 13 at (pos 0))
 read_dash at (b ∷ u) = pick (eqb b dash) (Ok (at + 1)) (Err (refusal 12 at (pos b)))
 
 abbrev pub the_dash : List ℕ → ℕ → Result ℕ Refusal
-the_dash s at = placed Err read_dash s at
+the_dash s at = placed read_dash s at
 
 unfoldable pub read_end : ℕ → List ℕ → Result ⊤ Refusal
 read_end at [] = Ok tt
 read_end at (b ∷ u) = Err (refusal 14 at (pos b))
 
 abbrev pub the_end : List ℕ → ℕ → Result ⊤ Refusal
-the_end s at = placed Err read_end s at
+the_end s at = placed read_end s at

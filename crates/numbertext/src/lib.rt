@@ -8,9 +8,8 @@ ghost use Rattle.std.specs.Prelude.{◌≡◌, drop};
 ghost use Rattle.numbertext.specs.Promise.{NumberAt, SignedAt, DashAt, EndAt};
 ghost use Rattle.numbertext.specs.Reading.{ended_at_value, signed_run_value, limit_of, way_out_value};
 
-use refusals::{Refusal, byte_refusal, refusal_at};
 use digits::NoRun;
-use whole::Outside;
+use refusals::{Refusal, byte_refusal, refusal_at};
 
 // ---- what stands at a place
 
@@ -24,20 +23,15 @@ fn ended_at(s: &[u8], at: usize, number: u32) -> Refusal
     refusal_at(number, at, 0)
 }
 
-// An unsigned number of 32 bits.
+// An unsigned number of 32 bits, and the place after it.
 pub fn number_at(s: &[u8], at: usize) -> Result<(u32, usize), Refusal>
     ensures { NumberAt s.now at result }
 {
     match digits::run_at(s, at, 4_294_967_295) {
         Ok((n, next)) => Ok((n as u32, next)),
         Err(NoRun::Over(i)) => Err(refusal_at(11, i, 0)),
-        Err(NoRun::Empty) => {
-            if at < s.len() {
-                Err(byte_refusal(9, at, s[at]))
-            } else {
-                Err(ended_at(s, at, 8))
-            }
-        }
+        Err(NoRun::Empty) if at < s.len() => Err(byte_refusal(9, at, s[at])),
+        Err(NoRun::Empty) => Err(ended_at(s, at, 8)),
     }
 }
 
@@ -60,21 +54,25 @@ fn way_out(negative: bool) -> u32
 }
 
 // The digits of a signed number stand at `first`; `none` is the refusal where there is no digit. A magnitude that the run tells always fits.
-fn signed_run(s: &[u8], negative: bool, first: usize, none: Refusal) -> Result<(i32, usize), Refusal>
+fn signed_run(
+    s: &[u8],
+    negative: bool,
+    first: usize,
+    none: Refusal,
+) -> Result<(i32, usize), Refusal>
     ensures { result ≡ signed_run_value negative first none (drop first s.now) }
 {
     match digits::run_at(s, first, limit(negative)) {
         Ok((n, next)) => match whole::signed(negative, n) {
             Ok(y) => Ok((y, next)),
-            Err(Outside::Above) => Err(none),
-            Err(Outside::Below) => Err(none),
+            Err(_) => Err(none),
         },
         Err(NoRun::Over(i)) => Err(refusal_at(way_out(negative), i, 0)),
         Err(NoRun::Empty) => Err(none),
     }
 }
 
-// A number of signed 32 bits, with a sign before it or none.
+// A number of signed 32 bits, with a sign before it or none, and the place after it.
 pub fn signed_at(s: &[u8], at: usize) -> Result<(i32, usize), Refusal>
     ensures { SignedAt s.now at result }
 {
@@ -91,6 +89,7 @@ pub fn signed_at(s: &[u8], at: usize) -> Result<(i32, usize), Refusal>
     Err(ended_at(s, at, 8))
 }
 
+// A `-`: the place after it.
 pub fn dash_at(s: &[u8], at: usize) -> Result<usize, Refusal>
     ensures { DashAt s.now at result }
 {
@@ -104,6 +103,7 @@ pub fn dash_at(s: &[u8], at: usize) -> Result<usize, Refusal>
     Err(ended_at(s, at, 13))
 }
 
+// The end of the text.
 pub fn end_at(s: &[u8], at: usize) -> Result<(), Refusal>
     ensures { EndAt s.now at result }
 {

@@ -14,10 +14,10 @@ pub returns-in-Ok : goal.returns-in-Ok
 returns-in-Ok c = number_meant (sym (number_value _ _ c.in-Ok.ensures refl))
 
 pub returns-in-Err-Over : goal.returns-in-Err-Over
-returns-in-Err-Over c = number_meant (ap Err c.refusal_at.ensures ∙ sym (number_over _ _ c.in-Err-Over.ensures refl))
+returns-in-Err-Over c = number_meant (ap Err c.refusal_at.ensures ∙ sym (number_over _ _ c.in-Err-Over.ensures (ap Err c.in-Err-Over.field-0-is)))
 
-pub returns-then-at-s : goal.returns-then-at-s
-returns-then-at-s c = number_meant (ap Err c.byte_refusal.ensures ∙ sym (number_other _ _ c.in-Err-Empty.ensures refl c.if-at-s.true))
+pub returns-in-Err-Empty : goal.returns-in-Err-Empty
+returns-in-Err-Empty c = number_meant (ap Err c.byte_refusal.ensures ∙ sym (number_other _ _ c.in-Err-Empty.ensures (ap Err c.in-Err-Empty.field-0-is) c.if-at-s.true))
 
-pub returns-else-at-s : goal.returns-else-at-s
-returns-else-at-s c = number_meant (ap Err c.ended_at.ensures ∙ sym (number_end _ _ c.if-at-s.false))
+pub returns-in-Err-Empty-2 : goal.returns-in-Err-Empty-2
+returns-in-Err-Empty-2 c = number_meant (ap Err c.ended_at.ensures ∙ sym (number_end _ _ c.if-at-s.false))
