@@ -27,13 +27,13 @@ fn put_bytes(out: &mut [u8], at: usize, text: &[u8]) -> usize
     at + text.len()
 }
 
-// Bytes as they stand: the answer tells the offset after them.
+// Bytes as they stand: the answer tells the offset after them, or there is no room.
 pub fn copy_text(out: &mut [u8], at: usize, text: &[u8]) -> Option<usize>
     ensures { Copies text.now out.old at out.new result }
 {
     if has_room(out.len(), at, text.len()) {
-        let end = put_bytes(out, at, text);
-        return Some(end);
+        Some(put_bytes(out, at, text))
+    } else {
+        None
     }
-    None
 }

@@ -1,5 +1,5 @@
 // Numbers and year-month-day texts, written into a buffer that is lent. Each call answers for any buffer and any offset.
-// For users: `write_ymd`, `put_number`, `put_whole`, and `Written`. For the crates above: all else.
+// For users: `write_ymd`, `put_number` and `put_whole`. For the crates above: all else.
 #![tactic(auto)]
 
 pub mod buffer;
@@ -55,25 +55,27 @@ fn signed_width(negative: bool, k: usize) -> usize
     if negative { k + 1 } else { k }
 }
 
+// A sign and a magnitude, with no padding, from `at` on: the answer tells the offset after it.
 pub fn put_at(buf: &mut [u8], at: usize, negative: bool, n: u64) -> Result<usize, Refusal>
     ensures { Writes (Signs negative n) buf.old at buf.new result }
 {
     let k = decimals::width(n);
     let size = signed_width(negative, k);
     if buffer::has_room(buf.len(), at, size) {
-        let end = put_signed(buf, at, negative, n, k);
-        return Ok(end);
+        Ok(put_signed(buf, at, negative, n, k))
+    } else {
+        Err(refusals::refusal_with(18, size as u32))
     }
-    Err(refusals::refusal_with(18, size as u32))
 }
 
-// A number with no padding, from `at` on: the answer tells the offset after it.
+// A number likewise.
 pub fn put_number(buf: &mut [u8], at: usize, n: u32) -> Result<usize, Refusal>
     ensures { PutNumber n buf.old at buf.new result }
 {
     put_at(buf, at, false, n as u64)
 }
 
+// A whole number, with a `-` where it is negative.
 pub fn put_whole(buf: &mut [u8], at: usize, x: i64) -> Result<usize, Refusal>
     ensures { PutWhole x buf.old at buf.new result }
 {

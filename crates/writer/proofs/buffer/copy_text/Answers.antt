@@ -6,7 +6,7 @@ use mathlib.Core.Path.{sym, ◌∙◌}
 use Rattle.writer.proofs.buffer.copy_text.Goals as goal
 
 pub returns-then-has_room : goal.returns-then-has_room
-returns-then-has_room c = copied_to (leb-true _ _ (sym c.has_room.ensures ∙ c.if-has_room.true)) c.put_bytes-end.ensures
+returns-then-has_room c = copied_to (leb-true _ _ (sym c.has_room.ensures ∙ c.if-has_room.true)) c.put_bytes.ensures
 
-pub returns : goal.returns
-returns c = no_room (leb-false _ _ (sym c.has_room.ensures ∙ c.if-has_room.false))
+pub returns-else-has_room : goal.returns-else-has_room
+returns-else-has_room c = no_room (leb-false _ _ (sym c.has_room.ensures ∙ c.if-has_room.false))
