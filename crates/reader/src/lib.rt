@@ -5,38 +5,9 @@
 
 ghost use Rattle.std.specs.Prelude.{◌≡◌};
 ghost use Rattle.numbertext.specs.Promise.{NumberAt, SignedAt, DashAt, EndAt};
-ghost use Rattle.reader.specs.Promise.{after_number_value, after_signed_value, after_dash_value, Moves};
+ghost use Rattle.reader.specs.Promise.{pair_end, dash_end, Moves};
 
 use refusals::Refusal;
-
-
-// Where a reader at `at` goes on after x was read there.
-fn after_number(x: Result<(u32, usize), Refusal>, at: usize) -> usize
-    ensures { result ≡ after_number_value x at }
-{
-    match x {
-        Ok((_, next)) => next,
-        Err(_) => at,
-    }
-}
-
-fn after_signed(x: Result<(i32, usize), Refusal>, at: usize) -> usize
-    ensures { result ≡ after_signed_value x at }
-{
-    match x {
-        Ok((_, next)) => next,
-        Err(_) => at,
-    }
-}
-
-fn after_dash(x: Result<usize, Refusal>, at: usize) -> usize
-    ensures { result ≡ after_dash_value x at }
-{
-    match x {
-        Ok(next) => next,
-        Err(_) => at,
-    }
-}
 
 #[derive(Clone, Copy)]
 pub struct Reader<'a> {
@@ -53,33 +24,27 @@ impl<'a> Reader<'a> {
     }
 
     pub fn number(&mut self) -> Result<(u32, usize), Refusal>
-        ensures { Moves NumberAt after_number_value self.old self.new result }
+        ensures { Moves NumberAt pair_end self.old self.new result }
     {
-        let at = self.at;
-        let x = numbertext::number_at(self.src, at);
-        let next = after_number(x, at);
+        let (n, next) = numbertext::number_at(self.src, self.at)?;
         self.at = next;
-        x
+        Ok((n, next))
     }
 
     pub fn signed(&mut self) -> Result<(i32, usize), Refusal>
-        ensures { Moves SignedAt after_signed_value self.old self.new result }
+        ensures { Moves SignedAt pair_end self.old self.new result }
     {
-        let at = self.at;
-        let x = numbertext::signed_at(self.src, at);
-        let next = after_signed(x, at);
+        let (y, next) = numbertext::signed_at(self.src, self.at)?;
         self.at = next;
-        x
+        Ok((y, next))
     }
 
     pub fn dash(&mut self) -> Result<usize, Refusal>
-        ensures { Moves DashAt after_dash_value self.old self.new result }
+        ensures { Moves DashAt dash_end self.old self.new result }
     {
-        let at = self.at;
-        let x = numbertext::dash_at(self.src, at);
-        let next = after_dash(x, at);
+        let next = numbertext::dash_at(self.src, self.at)?;
         self.at = next;
-        x
+        Ok(next)
     }
 
     // Whether all bytes are read: the first one left over is told.
