@@ -1,6 +1,6 @@
 -- The texts among the scope's known days, about the definitions: what each writes, or its first fault.
 -- Assumes nothing.
-use Rattle.std.specs.Prelude.{ℕ, refl, List, [], ◌∷◌, pos, Err}
+use Rattle.std.specs.Prelude.{ℕ, refl, List, [], ◌∷◌, pos, Ok, Err}
 use Rattle.whole.specs.Promise.{signed_of}
 use Rattle.refusals.specs.Promise.{refusal}
 use Rattle.digits.specs.Numerals.{plus, dash}
@@ -17,7 +17,7 @@ from_2023 u = 50 ∷ 48 ∷ 50 ∷ 51 ∷ dash ∷ u
 
 pub record Known : Type 0 where
   -- `2023-13` is ordinal 13
-  pub thirteen : ReadDate (from_2023 (49 ∷ 51 ∷ [])) (Text.Ordinal (pos 2023) 13 5)
+  pub thirteen : ReadDate (from_2023 (49 ∷ 51 ∷ [])) (Ok (Text.Ordinal (pos 2023) 13 5))
   -- `2023-13x` 3
   pub no_month : ReadDate (from_2023 (49 ∷ 51 ∷ 120 ∷ [])) (Err (refusal 3 5 (pos 13)))
   -- `2023-1x` 12
@@ -33,7 +33,7 @@ pub record Known : Type 0 where
   -- `2147483648-1` 11, at the last digit of the year
   pub too_large : ReadDate (50 ∷ 49 ∷ 52 ∷ 55 ∷ 52 ∷ 56 ∷ 51 ∷ 54 ∷ 52 ∷ 56 ∷ dash ∷ 49 ∷ []) (Err (refusal 11 9 (pos 0)))
   -- `-0-1-1` year 0
-  pub year_zero : ReadDate (dash ∷ 48 ∷ dash ∷ 49 ∷ dash ∷ 49 ∷ []) (Text.Ymd (pos 0) 1 1 5)
+  pub year_zero : ReadDate (dash ∷ 48 ∷ dash ∷ 49 ∷ dash ∷ 49 ∷ []) (Ok (Text.Ymd (pos 0) 1 1 5))
 
 pub known : Known
 unfolding read_text placed run_from read_number signed_run_value read_signed read_dash read_end signed_of

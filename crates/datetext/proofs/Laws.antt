@@ -43,9 +43,9 @@ rest_end {s} {n} a = omega (arith, length-drop n s, ap length a.rest)
 rest_more : {s : List ℕ} {n b : ℕ} {v : List ℕ} → Rest s n (b ∷ v) → n < length s
 rest_more {s} {n} a = omega (arith, length-drop n s, ap length a.rest)
 
-module _ {A : Type 0} (refuse : Refusal → A) (f : ℕ → List ℕ → A) {s : List ℕ} {n : ℕ} {v : List ℕ} (a : Rest s n v) where
-  at_rest : placed refuse f s n ≡ f n v
-  at_rest = placed_in refuse f s n a.within ∙ ap (f n) a.rest
+module _ {A : Type 0} (f : ℕ → List ℕ → Result A Refusal) {s : List ℕ} {n : ℕ} {v : List ℕ} (a : Rest s n v) where
+  at_rest : placed f s n ≡ f n v
+  at_rest = placed_in f s n a.within ∙ ap (f n) a.rest
 
 -- ---- small facts
 
@@ -86,7 +86,7 @@ end_right {s} {p} {q} {t} {k = k} {n = n} e yr fq mo ft st ek en (EndFrom.left_o
 day_right : {s p q w : List ℕ} {y : ℤ} {m n : ℕ} → s ≡ p ++ (dash ∷ (q ++ (dash ∷ w))) → Signed p y → Unsigned q m → Month m
     → n ≡ length p + 1 + length q + 1 → Rest s n w → {x : Result (ℕ × ℕ) Refusal} → NumberFrom n w x → ReadDate s (after_day s y m n x)
 day_right {s} {p} {q} {y = y} {m = m} {n = n} e yr fq mo en a (NumberFrom.number {p = t} {u = v} {n = d} ft st) =
-    subst (λ (x : Result ⊤ Refusal). ReadDate s (to_ymd y m d n x)) (sym (at_rest Err read_end (rest_on t v a)))
+    subst (λ (x : Result ⊤ Refusal). ReadDate s (to_ymd y m d n x)) (sym (at_rest read_end (rest_on t v a)))
     (end_right e yr fq mo ft st en refl (end_sound (n + length t) v))
 day_right {w = w} e yr fq mo en a (NumberFrom.no_number {f = f} h) =
     ReadDate.faulty (subst (λ (x : List ℕ). Fault x f) (sym e) (Fault.at_third yr fq mo (subst (λ (k : ℕ). NoNumber k w f) en h)))
@@ -96,7 +96,7 @@ month_right : {s p q v : List ℕ} {y : ℤ} {m n b : ℕ} → s ≡ p ++ (dash 
     → n ≡ length p + 1 + length q → Rest s n (b ∷ v) → {x : Result ℕ Refusal} → DashFrom n (b ∷ v) x → ReadDate s (after_month_value s y m x)
 month_right {s} {p} {q} {v} {y} {m} {n} {b} e yr fq mo st en a (DashFrom.a_dash) =
     let a' : Rest s (n + 1) v = rest_on (dash ∷ []) v a in
-    subst (λ (x : Result (ℕ × ℕ) Refusal). ReadDate s (after_day s y m (n + 1) x)) (sym (at_rest Err read_number a'))
+    subst (λ (x : Result (ℕ × ℕ) Refusal). ReadDate s (after_day s y m (n + 1) x)) (sym (at_rest read_number a'))
     (day_right e yr fq mo (ap (λ (k : ℕ). k + 1) en) a' (number_sound (n + 1) v))
 month_right {s} {p} {q} {v} {y} {m} {n} {b} e yr fq mo st en a (DashFrom.no_dash {f = f} h) =
     ReadDate.faulty (subst (λ (x : List ℕ). Fault x f) (sym e) (Fault.at_second_dash yr fq mo st (subst (λ (k : ℕ). NoDash k (b ∷ v) f) en h)))
@@ -118,7 +118,7 @@ second_right {s} {p} {y = y} {n = n} e yr en a (NumberFrom.number {p = q} {u = v
       where
         goes : (t : Bool) → is_month_value m ≡ t → ReadDate s (pick t (after_month_value s y m (the_dash s (n + length q))) (Err (refusal 3 n (pos m))))
         goes true h =
-            subst (λ (z : Result ℕ Refusal). ReadDate s (after_month_value s y m z)) (sym (at_rest Err read_dash b))
+            subst (λ (z : Result ℕ Refusal). ReadDate s (after_month_value s y m z)) (sym (at_rest read_dash b))
             (month_right e' yr fq (month_is m h) st (ap (λ (k : ℕ). k + length q) en) b (dash_sound (n + length q) (x ∷ v)))
         goes false h =
             ReadDate.faulty
@@ -130,7 +130,7 @@ dash_right : {s p v : List ℕ} {y : ℤ} {n : ℕ} → s ≡ p ++ v → Signed 
     → ReadDate s (after_dash_value s y x)
 dash_right {s} {p} {y = y} {n = n} e yr st en a (DashFrom.a_dash {u = w}) =
     let a' : Rest s (n + 1) w = rest_on (dash ∷ []) w a in
-    subst (λ (x : Result (ℕ × ℕ) Refusal). ReadDate s (after_second s y (n + 1) x)) (sym (at_rest Err read_number a'))
+    subst (λ (x : Result (ℕ × ℕ) Refusal). ReadDate s (after_second s y (n + 1) x)) (sym (at_rest read_number a'))
     (second_right e yr (ap (λ (k : ℕ). k + 1) en) a' (number_sound (n + 1) w))
 dash_right {s} {p} {v} {y} {n} e yr st en a (DashFrom.no_dash {f = f} h) =
     ReadDate.faulty (subst (λ (x : List ℕ). Fault x f) (sym e) (Fault.at_dash yr st (subst (λ (k : ℕ). NoDash k v f) en h)))
@@ -139,12 +139,12 @@ year_right : {s : List ℕ} {x : Result (ℤ × ℕ) Refusal} → SignedFrom 0 s
 year_right (SignedFrom.no_number h) = ReadDate.faulty (Fault.at_year h)
 year_right (SignedFrom.number {p} {u = v} {y} yr st) =
     let a : Rest (p ++ v) (0 + length p) v = rest_on p v (rest_start (p ++ v)) in
-    subst (λ (x : Result ℕ Refusal). ReadDate (p ++ v) (after_dash_value (p ++ v) y x)) (sym (at_rest Err read_dash a))
+    subst (λ (x : Result ℕ Refusal). ReadDate (p ++ v) (after_dash_value (p ++ v) y x)) (sym (at_rest read_dash a))
     (dash_right refl yr st (zero-add (length p)) a (dash_sound (0 + length p) v))
 
 pub sound : (s : List ℕ) → ReadDate s (read_text s)
 unfolding read_text
-sound s = subst (λ (x : Result (ℤ × ℕ) Refusal). ReadDate s (after_year s x)) (sym (at_rest Err read_signed (rest_start s))) (year_right (signed_sound 0 s))
+sound s = subst (λ (x : Result (ℤ × ℕ) Refusal). ReadDate s (after_year s x)) (sym (at_rest read_signed (rest_start s))) (year_right (signed_sound 0 s))
 
 -- ---- a right answer is the computed one
 
@@ -156,8 +156,8 @@ module _ {p : List ℕ} {y : ℤ} (yr : Signed p y) where
   unfolding read_text
   through_year v st =
       ap (after_year (p ++ v))
-      (at_rest Err read_signed (rest_start (p ++ v)) ∙ signed_complete (SignedFrom.number yr st) ∙ ap ((λ (k : ℕ). Ok (y, k))) (zero-add (length p)))
-      ∙ ap (after_dash_value (p ++ v) y) (at_rest Err read_dash (rest_dash v))
+      (at_rest read_signed (rest_start (p ++ v)) ∙ signed_complete (SignedFrom.number yr st) ∙ ap (λ (k : ℕ). Ok (y, k)) (zero-add (length p)))
+      ∙ ap (after_dash_value (p ++ v) y) (at_rest read_dash (rest_dash v))
 
   rest_second : (w : List ℕ) → Rest (p ++ (dash ∷ w)) (length p + 1) w
   rest_second w = rest_on (dash ∷ []) w (rest_dash (dash ∷ w))
@@ -166,7 +166,7 @@ module _ {p : List ℕ} {y : ℤ} (yr : Signed p y) where
   through_dash w =
       through_year (dash ∷ w) (dash_stops w)
       ∙ ap (after_dash_value (p ++ (dash ∷ w)) y) (dash_complete DashFrom.a_dash)
-      ∙ ap (after_second (p ++ (dash ∷ w)) y (length p + 1)) (at_rest Err read_number (rest_second w))
+      ∙ ap (after_second (p ++ (dash ∷ w)) y (length p + 1)) (at_rest read_number (rest_second w))
 
   module _ {q : List ℕ} {m : ℕ} (fq : Unsigned q m) where
     rest_dash₂ : (v : List ℕ) → Rest (p ++ (dash ∷ (q ++ v))) (length p + 1 + length q) v
@@ -177,9 +177,9 @@ module _ {p : List ℕ} {y : ℤ} (yr : Signed p y) where
     through_second v st =
         through_dash (q ++ v) ∙ ap (after_second (p ++ (dash ∷ (q ++ v))) y (length p + 1)) (number_complete (NumberFrom.number fq st))
 
-    ordinal_read : read_text (p ++ (dash ∷ q)) ≡ Text.Ordinal y m (length p + 1)
+    ordinal_read : read_text (p ++ (dash ∷ q)) ≡ Ok (Text.Ordinal y m (length p + 1))
     ordinal_read =
-        subst (λ (x : List ℕ). read_text (p ++ (dash ∷ x)) ≡ Text.Ordinal y m (length p + 1)) (append-nil q)
+        subst (λ (x : List ℕ). read_text (p ++ (dash ∷ x)) ≡ Ok (Text.Ordinal y m (length p + 1))) (append-nil q)
         (through_second [] Stops.ended ∙ pick_no _ _ (le-ltb _ _ (rest_end (rest_dash₂ []))))
 
     goes_on : (b : ℕ) (v : List ℕ) → Stops (b ∷ v)
@@ -190,7 +190,7 @@ module _ {p : List ℕ} {y : ℤ} (yr : Signed p y) where
       through_month : (b : ℕ) (v : List ℕ) → Stops (b ∷ v)
           → read_text (p ++ (dash ∷ (q ++ (b ∷ v)))) ≡ after_month_value (p ++ (dash ∷ (q ++ (b ∷ v)))) y m (read_dash (length p + 1 + length q) (b ∷ v))
       through_month b v st =
-          goes_on b v st ∙ pick_yes _ _ (is_month mo) ∙ ap (after_month_value (p ++ (dash ∷ (q ++ (b ∷ v)))) y m) (at_rest Err read_dash (rest_dash₂ (b ∷ v)))
+          goes_on b v st ∙ pick_yes _ _ (is_month mo) ∙ ap (after_month_value (p ++ (dash ∷ (q ++ (b ∷ v)))) y m) (at_rest read_dash (rest_dash₂ (b ∷ v)))
 
       rest_day : (w : List ℕ) → Rest (p ++ (dash ∷ (q ++ (dash ∷ w)))) (length p + 1 + length q + 1) w
       rest_day w = rest_on (dash ∷ []) w (rest_dash₂ (dash ∷ w))
@@ -200,7 +200,7 @@ module _ {p : List ℕ} {y : ℤ} (yr : Signed p y) where
       through_dash₂ w =
           through_month dash w (dash_stops w)
           ∙ ap (after_month_value (p ++ (dash ∷ (q ++ (dash ∷ w)))) y m) (dash_complete DashFrom.a_dash)
-          ∙ ap (after_day (p ++ (dash ∷ (q ++ (dash ∷ w)))) y m (length p + 1 + length q + 1)) (at_rest Err read_number (rest_day w))
+          ∙ ap (after_day (p ++ (dash ∷ (q ++ (dash ∷ w)))) y m (length p + 1 + length q + 1)) (at_rest read_number (rest_day w))
 
       module _ {t : List ℕ} {d : ℕ} (ft : Unsigned t d) where
         rest_over : (v : List ℕ) → Rest (p ++ (dash ∷ (q ++ (dash ∷ (t ++ v))))) (length p + 1 + length q + 1 + length t) v
@@ -211,11 +211,11 @@ module _ {p : List ℕ} {y : ℤ} (yr : Signed p y) where
         through_day v st =
             through_dash₂ (t ++ v)
             ∙ ap (after_day (p ++ (dash ∷ (q ++ (dash ∷ (t ++ v))))) y m (length p + 1 + length q + 1)) (number_complete (NumberFrom.number ft st))
-            ∙ ap (to_ymd y m d (length p + 1 + length q + 1)) (at_rest Err read_end (rest_over v))
+            ∙ ap (to_ymd y m d (length p + 1 + length q + 1)) (at_rest read_end (rest_over v))
 
-        ymd_read : read_text (p ++ (dash ∷ (q ++ (dash ∷ t)))) ≡ Text.Ymd y m d (length p + 1 + length q + 1)
+        ymd_read : read_text (p ++ (dash ∷ (q ++ (dash ∷ t)))) ≡ Ok (Text.Ymd y m d (length p + 1 + length q + 1))
         ymd_read =
-            subst (λ (x : List ℕ). read_text (p ++ (dash ∷ (q ++ (dash ∷ x)))) ≡ Text.Ymd y m d (length p + 1 + length q + 1)) (append-nil t)
+            subst (λ (x : List ℕ). read_text (p ++ (dash ∷ (q ++ (dash ∷ x)))) ≡ Ok (Text.Ymd y m d (length p + 1 + length q + 1))) (append-nil t)
             (through_day [] Stops.ended ∙ ap (to_ymd y m d (length p + 1 + length q + 1)) (end_complete EndFrom.reached))
 
         over_read : (b : ℕ) (v : List ℕ) → Stops (b ∷ v)
@@ -224,7 +224,7 @@ module _ {p : List ℕ} {y : ℤ} (yr : Signed p y) where
 
 fault_complete : {s : List ℕ} {f : Refusal} → Fault s f → read_text s ≡ Err f
 unfolding read_text
-fault_complete {s} (Fault.at_year h) = ap (after_year s) (at_rest Err read_signed (rest_start s) ∙ signed_complete (SignedFrom.no_number h))
+fault_complete {s} (Fault.at_year h) = ap (after_year s) (at_rest read_signed (rest_start s) ∙ signed_complete (SignedFrom.no_number h))
 fault_complete (Fault.at_dash {p} {u} {y} yr st h) = through_year yr u st ∙ ap (after_dash_value (p ++ u) y) (dash_complete (DashFrom.no_dash h))
 fault_complete (Fault.at_second {p} {u} {y} yr h) =
     through_dash yr u ∙ ap (after_second (p ++ (dash ∷ u)) y (length p + 1)) (number_complete (NumberFrom.no_number h))

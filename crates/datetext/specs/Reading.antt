@@ -13,7 +13,7 @@ is_month_value m = pick (leb 1 m) (leb m 12) false
 -- ---- the answer, after each part that was read
 
 abbrev pub to_ymd : ℤ → ℕ → ℕ → ℕ → Result ⊤ Refusal → Result Text Refusal
-to_ymd y m d k (Ok tt) = Text.Ymd y m d k
+to_ymd y m d k (Ok tt) = Ok (Text.Ymd y m d k)
 to_ymd y m d k (Err f) = Err f
 
 -- the day's number stands at k
@@ -31,7 +31,7 @@ after_second s y k (Err f) = Err f
 after_second s y k (Ok (m, n)) =
     pick (ltb n (length s))
     (pick (is_month_value m) (after_month_value s y m (the_dash s n)) (Err (refusal 3 k (pos m))))
-    (Text.Ordinal y m k)
+    (Ok (Text.Ordinal y m k))
 
 abbrev pub after_dash_value : List ℕ → ℤ → Result ℕ Refusal → Result Text Refusal
 after_dash_value s y (Err f) = Err f

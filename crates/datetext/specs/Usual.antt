@@ -38,7 +38,7 @@ pub record MonthRead (s : List ℕ) (at n next : ℕ) : Type 0 where
   pub read : (y : ℤ) → after_second s y at (the_number s at) ≡ after_day s y n next (the_number s next)
 
 pub record DayRead (s : List ℕ) (at n : ℕ) : Type 0 where
-  pub read : (y : ℤ) (m : ℕ) → after_day s y m at (the_number s at) ≡ Text.Ymd y m n at
+  pub read : (y : ℤ) (m : ℕ) → after_day s y m at (the_number s at) ≡ Ok (Text.Ymd y m n at)
 
 -- ---- a year or a month that ends at k, where the dash stands
 module _ (s : List ℕ) (k : ℕ) (h : k < length s) (d : get_or s k 0 ≡ dash) where

@@ -13,7 +13,7 @@ ghost use Rattle.datetext.specs.Reading.{is_month_value, after_day, after_month_
 use refusals::Refusal;
 pub use usual::read_date;
 
-// What a text writes, or its first fault. The place is that of the number which a later refusal may name, the ordinal or the day.
+// What a text writes. The place is that of the number which a later refusal may name, the ordinal or the day.
 #[derive(Clone, Copy)]
 pub enum Text {
     Ordinal {
@@ -27,37 +27,30 @@ pub enum Text {
         day: u32,
         place: usize,
     },
-    Refused(Refusal),
 }
 
-// ---- reading: a part at a time, each going on from the part before it, for any year or month that it is told
+// ---- reading: a part at a time, each going on from the part before it, for any year or month that it is told. The first fault is the refusal.
 
 // The day is to stand at `at`.
 fn day_on(text: &[u8], year: i32, month: u32, at: usize) -> Result<Text, Refusal>
     ensures { result ≡ after_day text.now year month at (the_number text.now at) }
 {
-    match numbertext::number_at(text, at) {
-        Err(f) => Err(f),
-        Ok((day, next)) => match numbertext::end_at(text, next) {
-            Err(f) => Err(f),
-            Ok(()) => Text::Ymd {
-                year,
-                month,
-                day,
-                place: at,
-            },
-        },
-    }
+    let (day, next) = numbertext::number_at(text, at)?;
+    numbertext::end_at(text, next)?;
+    Ok(Text::Ymd {
+        year,
+        month,
+        day,
+        place: at,
+    })
 }
 
 // The `-` after the month is to stand at `at`.
 fn month_on(text: &[u8], year: i32, month: u32, at: usize) -> Result<Text, Refusal>
     ensures { result ≡ after_month_value text.now year month (the_dash text.now at) }
 {
-    match numbertext::dash_at(text, at) {
-        Err(f) => Err(f),
-        Ok(next) => day_on(text, year, month, next),
-    }
+    let next = numbertext::dash_at(text, at)?;
+    day_on(text, year, month, next)
 }
 
 fn is_month(m: u32) -> bool
@@ -70,23 +63,18 @@ fn is_month(m: u32) -> bool
 fn second_on(text: &[u8], year: i32, at: usize) -> Result<Text, Refusal>
     ensures { result ≡ after_second text.now year at (the_number text.now at) }
 {
-    match numbertext::number_at(text, at) {
-        Err(f) => Err(f),
-        Ok((n, next)) => {
-            if next < text.len() {
-                if is_month(n) {
-                    month_on(text, year, n, next)
-                } else {
-                    Err(refusals::refusal_at(3, at, n))
-                }
-            } else {
-                Text::Ordinal {
-                    year,
-                    ordinal: n,
-                    place: at,
-                }
-            }
-        }
+    let (n, next) = numbertext::number_at(text, at)?;
+    if text.len() <= next {
+        return Ok(Text::Ordinal {
+            year,
+            ordinal: n,
+            place: at,
+        });
+    }
+    if is_month(n) {
+        month_on(text, year, n, next)
+    } else {
+        Err(refusals::refusal_at(3, at, n))
     }
 }
 
@@ -94,18 +82,14 @@ fn second_on(text: &[u8], year: i32, at: usize) -> Result<Text, Refusal>
 fn year_on(text: &[u8], year: i32, at: usize) -> Result<Text, Refusal>
     ensures { result ≡ after_dash_value text.now year (the_dash text.now at) }
 {
-    match numbertext::dash_at(text, at) {
-        Err(f) => Err(f),
-        Ok(next) => second_on(text, year, next),
-    }
+    let next = numbertext::dash_at(text, at)?;
+    second_on(text, year, next)
 }
 
 // The text part by part, from its front on.
 fn any_date(text: &[u8]) -> Result<Text, Refusal>
     ensures { ReadDate text.now result }
 {
-    match numbertext::signed_at(text, 0) {
-        Err(f) => Err(f),
-        Ok((year, next)) => year_on(text, year, next),
-    }
+    let (year, next) = numbertext::signed_at(text, 0)?;
+    year_on(text, year, next)
 }

@@ -10,6 +10,8 @@ ghost use Rattle.datetext.specs.Usual.{IfAt, Hundreds, YearRead, MonthRead, DayR
 use crate::Text;
 use refusals::Refusal;
 
+// ---- a part that is found: its number, and the place after its dash
+
 // The last two digits of the year are to stand at `at`, where a `-` is known to come after them.
 #[tactic(auto, using(crate::specs::Usual::nothing_found))]
 fn year_at(text: &[u8], hundreds: u32, at: usize) -> Option<(u32, usize)>
@@ -98,29 +100,27 @@ fn usual_on(text: &[u8], year: i32, at: usize) -> Result<Text, Refusal>
     requires { at ≤ length text.now }
     ensures { result ≡ after_second text.now year at (the_number text.now at) }
 {
-    match usual_month(text, at) {
-        None => crate::second_on(text, year, at),
-        Some((month, third)) => {
-            let day = usual_day(text, third);
-            if day < 100 {
-                Text::Ymd {
-                    year,
-                    month,
-                    day,
-                    place: third,
-                }
-            } else {
-                crate::day_on(text, year, month, third)
-            }
-        }
+    let Some((month, third)) = usual_month(text, at) else {
+        return crate::second_on(text, year, at);
+    };
+    let day = usual_day(text, third);
+    if day < 100 {
+        Ok(Text::Ymd {
+            year,
+            month,
+            day,
+            place: third,
+        })
+    } else {
+        crate::day_on(text, year, month, third)
     }
 }
 
 pub fn read_date(text: &[u8]) -> Result<Text, Refusal>
     ensures { ReadDate text.now result }
 {
-    match usual_year(text) {
-        None => crate::any_date(text),
-        Some((year, second)) => usual_on(text, whole::lowered(2_147_483_648 + year), second),
-    }
+    let Some((year, second)) = usual_year(text) else {
+        return crate::any_date(text);
+    };
+    usual_on(text, whole::lowered(2_147_483_648 + year), second)
 }

@@ -16,8 +16,8 @@ overflow_add-year c = omega (arith, (if_at c.in-Some.ensures).small)
 pub usual_on-requires : goal.usual_on-requires
 usual_on-requires c = (if_at c.in-Some.ensures).within
 
-pub returns-in-Some : goal.returns-in-Some
-returns-in-Some c =
+pub returns : goal.returns
+returns c =
     let s = c.args.text.now in
     let n = c.in-Some.second in
     read_meant
