@@ -144,9 +144,10 @@ year_read {u} (y, s) h =
     (y, s, signed_one h (At.within (omega arith) (subst (λ (x : List ℕ). SignedFrom 0 x (Ok (y, 0 + length u))) (append-nil u) (SignedFrom.number s Stops.ended))))
 
 pub year_answer : {u : List ℕ} {r : Result (ℤ × ℕ) Refusal} {z : ℤ} {n : ℕ} → IsYear u → SignedAt u 0 r → r ≡ Ok (z, n) → Expects u (expects (digits_left_value (year_limit_value z) (nat_abs z)) true false false)
-year_answer {u} {z = z} w h e =
+year_answer {u} {z = z} {n} w h e =
     let (y, s, i) = year_read w h in
-    let j : y ≡ z = cc in
+    let p : ◌≡◌ {A = ℤ × ℕ} (y, 0 + length u) (z, n) = cc in
+    let j : y ≡ z = ap (λ (x : ℤ × ℕ). x.0) p in
     subst (λ (x : ℤ). Expects u (expects (digits_left_value (year_limit_value x) (nat_abs x)) true false false)) j (year_written s)
 
 pub year_refused : {u : List ℕ} {r : Result (ℤ × ℕ) Refusal} {f : Refusal} → IsYear u → SignedAt u 0 r → r ≡ Err f → ⊥
@@ -167,10 +168,10 @@ pub empty_expects : (u : List ℕ) → length u < 1 → Expects u (expects 10 tr
 empty_expects [] h = start_expects
 empty_expects (b ∷ u) h = absurd (omega arith)
 
-pub ordinal_expects : {u : List ℕ} {y : ℤ} {n k : ℕ} → ReadDate u (Text.Ordinal y n k) → (t : Bool) → Whether (Month n) t → Expects u (expects (digits_left_value 4_294_967_295 n) t false true)
+pub ordinal_expects : {u : List ℕ} {y : ℤ} {n k : ℕ} → ReadDate u (Ok (Text.Ordinal y n k)) → (t : Bool) → Whether (Month n) t → Expects u (expects (digits_left_value 4_294_967_295 n) t false true)
 ordinal_expects (ReadDate.ordinal_text (OrdinalText.ordinal s m)) t w = second_expects s m t w
 
-pub ymd_expects : {u : List ℕ} {y : ℤ} {m d k : ℕ} → ReadDate u (Text.Ymd y m d k) → Expects u (expects (digits_left_value 4_294_967_295 d) false false true)
+pub ymd_expects : {u : List ℕ} {y : ℤ} {m d k : ℕ} → ReadDate u (Ok (Text.Ymd y m d k)) → Expects u (expects (digits_left_value 4_294_967_295 d) false false true)
 ymd_expects (ReadDate.ymd_text (YmdText.ymd s m mo w)) = third_expects s m mo w
 
 pub refused_says : {u : List ℕ} {f : Refusal} → ReadDate u (Err f) → Says u f.number

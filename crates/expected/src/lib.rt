@@ -42,17 +42,8 @@ fn expected_after(front: &[u8]) -> Expected
     ensures { Expects front.now result }
 {
     match datetext::read_date(front) {
-        Text::Ordinal {
-            year,
-            ordinal,
-            place,
-        } => after_number(ordinal, monthdays::is_month(ordinal)),
-        Text::Ymd {
-            year,
-            month,
-            day,
-            place,
-        } => after_number(day, false),
+        Ok(Text::Ordinal { ordinal, .. }) => after_number(ordinal, monthdays::is_month(ordinal)),
+        Ok(Text::Ymd { day, .. }) => after_number(day, false),
         Err(why) => after_fault(front, why.number),
     }
 }
@@ -63,7 +54,7 @@ fn after_number(n: u32, dash: bool) -> Expected
 {
     Expected {
         digits: digits_left(4_294_967_295, n as u64),
-        dash: dash,
+        dash,
         plus: false,
         ends: true,
     }
@@ -74,7 +65,7 @@ fn beginning(digits: u32, signs: bool) -> Expected
     ensures { result ≡ expects digits signs signs false }
 {
     Expected {
-        digits: digits,
+        digits,
         dash: signs,
         plus: signs,
         ends: false,
