@@ -1,5 +1,5 @@
 -- What the proofs need: how bytes are added to a line, and what a block has of it.
-use Rattle.std.specs.Prelude.{ℕ, ◌+◌, ◌≤◌, ◌<◌, ◌-◌, ◌≡◌, List, [], ◌∷◌, ◌++◌, length, take, drop, Some, None}
+use Rattle.std.specs.Prelude.{ℕ, ◌+◌, ◌≤◌, ◌<◌, ◌-◌, ◌≡◌, List, [], ◌∷◌, ◌++◌, length, take, drop, Option, Some, None, unwrap_or}
 use Rattle.std.proofs.Common.{sym, subst, ◌∙◌, ap, append_assoc, arith, length-append, length-drop, take_all, take_at, drop-drop, drop_at}
 use Rattle.std.proofs.Math.Seq.{drop-length}
 use Rattle.writer.specs.Promise.{Copies, copied, no_room}
@@ -8,11 +8,9 @@ use Rattle.whole.specs.Text.{newline}
 use Rattle.textlines.specs.Lines.{longest_read}
 use Rattle.textlines.specs.Promise.{AddsToLine, TakesRest, TakesLine}
 
-pub adds_fits : {l : List ℕ} {n : ℕ} {q l' : List ℕ} {i : ℕ} → length l ≡ longest_read → Copies q l n l' (Some i) → AddsToLine l n q l' i
-adds_fits e (copied h) = AddsToLine.fits (omega arith)
-
-pub adds_over : {l : List ℕ} {n : ℕ} {q l' : List ℕ} → length l ≡ longest_read → Copies q l n l' None → AddsToLine l n q l' (longest_read + 1)
-adds_over e (no_room h) = AddsToLine.over (omega arith)
+pub adds_copied : {l : List ℕ} {n : ℕ} {q l' : List ℕ} (r : Option ℕ) → length l ≡ longest_read → Copies q l n l' r → AddsToLine l n q l' (unwrap_or r (longest_read + 1))
+adds_copied (Some i) e (copied h) = AddsToLine.fits (omega arith)
+adds_copied None e (no_room h) = AddsToLine.over (omega arith)
 
 -- ---- the bytes up to a newline, or up to the end of the block
 

@@ -18,8 +18,5 @@ const TOO_LONG: usize = LONGEST_READ + 1;
 pub fn add_to_line(line: &mut [u8; LONGEST_READ], held: usize, part: &[u8]) -> usize
     ensures { AddsToLine line.old held part.now line.new result }
 {
-    match buffer::copy_text(line, held, part) {
-        Some(n) => n,
-        None => TOO_LONG,
-    }
+    buffer::copy_text(line, held, part).unwrap_or(TOO_LONG)
 }
