@@ -16,7 +16,8 @@ use Rattle.ncal.specs.Promise.{Known, InTable, FoundAs, in_table, in_no_row}
 use Rattle.ncal.specs.declared.Found.{Found}
 use Rattle.ncal.specs.declared.Found.TheVariants as Found'
 use Rattle.nametable.specs.Limits.{most_lines, most_name}
-use Rattle.nametable.specs.Promise.{Memory, Finds, Enters, no_slot, no_room, enters}
+use Rattle.nametable.specs.Promise.{Finds, Enters, no_slot, no_room, enters}
+use Rattle.nametable.specs.declared.Names.{Names}
 use Rattle.nametable.specs.Houses.{house}
 use Rattle.whole.specs.Text.{tab}
 use Rattle.houseline.specs.Form.{Form, form}
@@ -57,7 +58,7 @@ house_refused {z} {y} e j g = subst (λ (x : Refusal). HouseCalendar z (Err x)) 
 few_lines : {n : ℕ} → n < most_lines → ¬ (most_lines < n + 1)
 few_lines h k = omega arith
 
-module _ {m : Memory} {n : ℕ} {s : List ℕ} {z : ℤ} where
+module _ {m : Names} {n : ℕ} {s : List ℕ} {z : ℤ} where
   pub house_taken : {f : Refusal} → TakenIn m s → f ≡ refusal 23 (n + 1) (pos 0) → AddsHouse m n s z m (Err f)
   house_taken t e = subst (λ (x : Refusal). AddsHouse m n s z m (Err x)) (sym e) (adds_house (refuses t) left_as)
 
@@ -66,7 +67,7 @@ module _ {m : Memory} {n : ℕ} {s : List ℕ} {z : ℤ} where
     house_over h e = subst (λ (x : Refusal). AddsHouse m n s z m (Err x)) (sym e) (adds_house (passes f (refuses (omega arith))) left_as)
 
     module _ (h : n < most_lines) where
-      judged_adds : {e : LineMeaning} {m' : Memory} {a : Result ℕ Refusal} → OfReformation (n + 1) s z e → Result m n e m' a → AddsHouse m n s z m' a
+      judged_adds : {e : LineMeaning} {m' : Names} {a : Result ℕ Refusal} → OfReformation (n + 1) s z e → Result m n e m' a → AddsHouse m n s z m' a
       judged_adds o r = adds_house (passes f (passes (few_lines h) o)) r
 
       pub house_judged : {y : ℤ} {number : ℕ} {g : Refusal} → y ≡ z → Judges y (Err number) → g ≡ refusal number (n + 1) z → AddsHouse m n s z m (Err g)
@@ -76,7 +77,7 @@ module _ {m : Memory} {n : ℕ} {s : List ℕ} {z : ℤ} where
           by e (refuses_with_1 x) = judged_adds (of_reformation (subst (λ (r : ℤ). Judged r refused_1) e x)) left_as
           by e (refuses_with_2 x) = judged_adds (of_reformation (subst (λ (r : ℤ). Judged r refused_2) e x)) left_as
 
-      pub house_added : {y w : ℤ} {k : ℕ} {m' : Memory} {b : Bool} → y ≡ z → w ≡ z → Judges y (Ok k) → length s ≤ most_name → Enters m n s w m' b → AddsHouse m n s z m' (Ok (n + 1))
+      pub house_added : {y w : ℤ} {k : ℕ} {m' : Names} {b : Bool} → y ≡ z → w ≡ z → Judges y (Ok k) → length s ≤ most_name → Enters m n s w m' b → AddsHouse m n s z m' (Ok (n + 1))
       house_added {m' = m'} e i j l t = by i t
         where
           holds_it : OfReformation (n + 1) s z (holds (house s z))
@@ -85,12 +86,12 @@ module _ {m : Memory} {n : ℕ} {s : List ℕ} {z : ℤ} where
               go : {y : ℤ} {k : ℕ} → y ≡ z → Judges y (Ok k) → OfReformation (n + 1) s z (holds (house s z))
               go e (accepts_biased x d) = of_reformation (subst (λ (r : ℤ). Judged r accepted) e x)
 
-          by : {w : ℤ} {m' : Memory} {b : Bool} → w ≡ z → Enters m n s w m' b → AddsHouse m n s z m' (Ok (n + 1))
+          by : {w : ℤ} {m' : Names} {b : Bool} → w ≡ z → Enters m n s w m' b → AddsHouse m n s z m' (Ok (n + 1))
           by i (no_slot k) = absurd (omega arith)
           by i (no_room k) = absurd (omega arith)
           by i (enters d k o u) = judged_adds holds_it (added d (u ∙ i))
 
-pub house_over_told : {m : Memory} {n : ℕ} {s : List ℕ} {z : ℤ} {t : Bool} {g : Refusal} → IsTaken m s t → t ≡ false → most_lines ≤ n → g ≡ refusal 24 (n + 1) (pos 0) → AddsHouse m n s z m (Err g)
+pub house_over_told : {m : Names} {n : ℕ} {s : List ℕ} {z : ℤ} {t : Bool} {g : Refusal} → IsTaken m s t → t ≡ false → most_lines ≤ n → g ≡ refusal 24 (n + 1) (pos 0) → AddsHouse m n s z m (Err g)
 house_over_told {m} {s = s} t e = house_over (subst (IsTaken m s) e t)
 
 -- ---- a line by its form
@@ -116,7 +117,7 @@ house_fits {l} r =
 pub place_fits : {l : List ℕ} {f : Refusal} → Reads l (HouseLine.Outside f) → f.place < 2 ^ 32
 place_fits (outside g k) = omega (arith, leaves_place g k)
 
-module _ {m : Memory} {n : ℕ} {l : List ℕ} (h : n ≤ most_lines) where
+module _ {m : Names} {n : ℕ} {l : List ℕ} (h : n ≤ most_lines) where
   pub line_malformed : {f : Refusal} → Reads l HouseLine.Malformed → f ≡ refusal 22 (n + 1) (pos 0) → Adds m n l m (Err f)
   line_malformed r e = subst (λ (x : Refusal). Adds m n l m (Err x)) (sym e) (adds h (refuses (none refl r)) left_as)
     where
@@ -131,14 +132,14 @@ module _ {m : Memory} {n : ℕ} {l : List ℕ} (h : n ≤ most_lines) where
       by : {f : Refusal} → Reads l (HouseLine.Outside f) → Adds m n l m (Err (refusal f.number (n + 1) (pos f.place)))
       by (outside {name} {z} g k) = adds h (passes (name, z, g) (leaves g k)) left_as
 
-  pub line_added : {end : ℕ} {z : ℤ} {m' : Memory} {a : Result ℕ Refusal} → Reads l (HouseLine.House end z) → AddsHouse m n (take end l) (to_z w32 (of_z w32 z)) m' a → Adds m n l m' a
+  pub line_added : {end : ℕ} {z : ℤ} {m' : Names} {a : Result ℕ Refusal} → Reads l (HouseLine.House end z) → AddsHouse m n (take end l) (to_z w32 (of_z w32 z)) m' a → Adds m n l m' a
   line_added {end} {z} r (adds_house {e = e} o t) =
       let (s, d, f, k) = reads_form refl r in
       let q : take end l ≡ s = ap (λ (j : ℕ). take j l) d ∙ (form_front f).0 in
       adds h (passes (s, z, f) (of_form f k (subst (λ (x : ℤ). OfName (TakenIn m) (FreeIn m) (n + 1) s x e) (to_z-of_z k) (subst (λ (x : List ℕ). OfName (TakenIn m) (FreeIn m) (n + 1) x (to_z w32 (of_z w32 z)) e) q o)))) t
 
-pub unknown_in : {m : Memory} {s : List ℕ} {f : Refusal} → ¬ Known s → Finds m s T.Found.Nowhere → f ≡ refusal 19 0 (pos 0) → NamesIn m s (Err f)
+pub unknown_in : {m : Names} {s : List ℕ} {f : Refusal} → ¬ Known s → Finds m s T.Found.Nowhere → f ≡ refusal 19 0 (pos 0) → NamesIn m s (Err f)
 unknown_in {m} {s} n w e = subst (λ (x : Refusal). NamesIn m s (Err x)) (sym e) (unknown n w)
 
-pub line_made_up : {m : Memory} {n : ℕ} {l : List ℕ} {f : Refusal} → most_lines < n → f ≡ refusal 16 0 (pos 0) → Adds m n l m (Err f)
+pub line_made_up : {m : Names} {n : ℕ} {l : List ℕ} {f : Refusal} → most_lines < n → f ≡ refusal 16 0 (pos 0) → Adds m n l m (Err f)
 line_made_up {m} {n} {l} h e = subst (λ (x : Refusal). Adds m n l m (Err x)) (sym e) (made_up h)

@@ -14,7 +14,8 @@ use Rattle.textlines.specs.Lines.{Lines}
 use Rattle.textlines.specs.One.{lines_one}
 use Rattle.whole.specs.Biased.{unbias_injective}
 use Rattle.nametable.specs.Hash.{bucket_of_value}
-use Rattle.nametable.specs.Promise.{Memory, memory, entered, linked}
+use Rattle.nametable.specs.Promise.{memory, entered, linked}
+use Rattle.nametable.specs.declared.Names.{Names}
 use Rattle.nametable.specs.Houses.{House, house}
 use Rattle.nametable.specs.One.{finds_one}
 use Rattle.houseline.specs.Laws.{fits_leaves}
@@ -83,7 +84,7 @@ means_one {b = b} p q =
 house_calendar_one : (z : ℤ) → One (HouseCalendar z)
 house_calendar_one z = unless_one (λ a. answers_one _)
 
-pub names_in_one : (m : Memory) (s : List ℕ) → One (NamesIn m s)
+pub names_in_one : (m : Names) (s : List ℕ) → One (NamesIn m s)
 names_in_one m s a b (R.built_in (of_row x)) (R.built_in (of_row y)) = sym (named_row x (passes (_, y) (of_row y)))
 names_in_one m s a b (R.built_in (of_row x)) (held n f c) = absurd (n (_, x))
 names_in_one m s a b (R.built_in (of_row x)) (R.unknown n f) = absurd (n (_, x))
@@ -97,11 +98,11 @@ names_in_one m s a b (R.unknown n f) (R.built_in (of_row x)) = absurd (n (_, x))
 names_in_one m s a b (R.unknown n f) (held o {z} g d) = let e : Some z ≡ None = finds_one g f in let z : ◌≡◌ {A = ℕ} 0 1 = cc in absurd (never z)
 names_in_one m s a b (R.unknown n f) (R.unknown o g) = refl
 
-taken_apart : (m : Memory) (s : List ℕ) → TakenIn m s → FreeIn m s → ⊥
+taken_apart : (m : Names) (s : List ℕ) → TakenIn m s → FreeIn m s → ⊥
 taken_apart m s (inl k) (n, f) = n k
 taken_apart m s (inr (z, g)) (n, f) = let e : Some z ≡ None = finds_one g f in let z : ◌≡◌ {A = ℕ} 0 1 = cc in never z
 
-result_one : {m : Memory} {n : ℕ} {e d : LineMeaning} {m₁ m₂ : Memory} {a b : Result ℕ Refusal} → e ≡ d → Result m n e m₁ a → Result m n d m₂ b → (m₁ ≡ m₂) × (a ≡ b)
+result_one : {m : Names} {n : ℕ} {e d : LineMeaning} {m₁ m₂ : Names} {a b : Result ℕ Refusal} → e ≡ d → Result m n e m₁ a → Result m n d m₂ b → (m₁ ≡ m₂) × (a ≡ b)
 result_one i (left_as {f = f}) (left_as {f = g}) = let j : f ≡ g = cc in (refl, ap Err j)
 result_one i left_as (added d u) = let z : ◌≡◌ {A = ℕ} 0 1 = cc in absurd (never z)
 result_one i (added d u) left_as = let z : ◌≡◌ {A = ℕ} 0 1 = cc in absurd (never z)
@@ -110,9 +111,9 @@ result_one {m} {n} i (added {s} {z} d u) (added {s = t} {z = y} c v) =
     let j : s ≡ t = ap (λ (x : House). x.name) q in
     let k : z ≡ y = ap (λ (x : House). x.number) q in
     let o : d ≡ c = unbias_injective (2 ^ 31) d c (u ∙ k ∙ sym v) in
-    (ap₂ (λ (x : List ℕ) (w : ℕ). memory (entered m.names n x) (linked m.links n (bucket_of_value x) w)) j o, refl)
+    (ap₂ (λ (x : List ℕ) (w : ℕ). memory (entered m.slots n x) (linked m.links n (bucket_of_value x) w)) j o, refl)
 
-pub adds_one : {m : Memory} {n : ℕ} {l : List ℕ} {m₁ m₂ : Memory} {a b : Result ℕ Refusal} → Adds m n l m₁ a → Adds m n l m₂ b → (m₁ ≡ m₂) × (a ≡ b)
+pub adds_one : {m : Names} {n : ℕ} {l : List ℕ} {m₁ m₂ : Names} {a b : Result ℕ Refusal} → Adds m n l m₁ a → Adds m n l m₂ b → (m₁ ≡ m₂) × (a ≡ b)
 adds_one (made_up h) (made_up k) = (refl, refl)
 adds_one (made_up h) (adds k o r) = absurd (omega arith)
 adds_one (adds h o r) (made_up k) = absurd (omega arith)

@@ -23,7 +23,8 @@ use Rattle.textlines.specs.One.{lines_some}
 use Rattle.nametable.specs.Limits.{most_lines}
 use Rattle.whole.specs.Tests.{lt_or_ge}
 use Rattle.nametable.specs.Hash.{bucket_of_value}
-use Rattle.nametable.specs.Promise.{Memory, memory, entered, linked}
+use Rattle.nametable.specs.Promise.{memory, entered, linked}
+use Rattle.nametable.specs.declared.Names.{Names}
 use Rattle.nametable.specs.Houses.{House, house, name_at, line_at}
 use Rattle.nametable.specs.Holds.{Holds, Has, has, has_not}
 use Rattle.nametable.specs.Theorems.{finds_has, enter_holds}
@@ -78,7 +79,7 @@ line_good {T} {F} {n} {l} {h} o = line_good' T F n l h refl o
 
 -- ---- taken and free in the memory, and in the list that it holds
 
-module _ {m : Memory} {hs : List House} (g : Holds m hs) where
+module _ {m : Names} {hs : List House} (g : Holds m hs) where
   has_named : {s : List ℕ} {a : Option ℤ} {z : ℤ} → a ≡ Some z → Has hs s a → Named hs s
   has_named e (has k h i) = (k, h, i)
   has_named e (has_not o) = let z : ◌≡◌ {A = ℕ} 0 1 = cc in absurd (never z)
@@ -107,11 +108,11 @@ module _ {T F T' F' : List ℕ → Type 0} (t : (s : List ℕ) → T s → T' s)
 
 -- ---- a line added to memory that holds a list
 
-module _ {m : Memory} {hs : List House} (g : Holds m hs) {l : List ℕ} where
+module _ {m : Names} {hs : List House} (g : Holds m hs) {l : List ℕ} where
   lined : {e : LineMeaning} → OfLine (TakenIn m) (FreeIn m) (length hs + 1) l e → LineMeans hs l e
   lined = line_map (taken_in g) (free_in g)
 
-  result_adds : {n k : ℕ} {e : LineMeaning} {m' : Memory} {a : Result ℕ Refusal} → n ≡ length hs → a ≡ Ok k → OfLine (TakenIn m) (FreeIn m) (n + 1) l e → Result m n e m' a
+  result_adds : {n k : ℕ} {e : LineMeaning} {m' : Names} {a : Result ℕ Refusal} → n ≡ length hs → a ≡ Ok k → OfLine (TakenIn m) (FreeIn m) (n + 1) l e → Result m n e m' a
       → (h : House) × LineMeans hs l (holds h) × Holds m' (hs ++ (h ∷ [])) × (k ≡ length (hs ++ (h ∷ [])))
   result_adds i j o left_as = let z : ◌≡◌ {A = ℕ} 0 1 = cc in absurd (never z)
   result_adds {n} {k} i j o (added {s} {z} d u) =
@@ -119,33 +120,33 @@ module _ {m : Memory} {hs : List House} (g : Holds m hs) {l : List ℕ} where
       let q : n + 1 ≡ k = cc in (
         house s z,
         lined (subst (λ (x : ℕ). OfLine (TakenIn m) (FreeIn m) (x + 1) l (holds (house s z))) i o),
-        subst (λ (x : ℕ). Holds (memory (entered m.names x s) (linked m.links x (bucket_of_value s) d)) (hs ++ (house s z ∷ []))) (sym i)
+        subst (λ (x : ℕ). Holds (memory (entered m.slots x s) (linked m.links x (bucket_of_value s) d)) (hs ++ (house s z ∷ []))) (sym i)
             (enter_holds g s z d (omega (arith, b.few)) b.name.short u),
         omega (arith, length-append hs (house s z ∷ [])),
       )
 
-  adds_holds' : {n k : ℕ} {m' : Memory} {a : Result ℕ Refusal} → n ≡ length hs → a ≡ Ok k → Adds m n l m' a
+  adds_holds' : {n k : ℕ} {m' : Names} {a : Result ℕ Refusal} → n ≡ length hs → a ≡ Ok k → Adds m n l m' a
       → (h : House) × LineMeans hs l (holds h) × Holds m' (hs ++ (h ∷ [])) × (k ≡ length (hs ++ (h ∷ [])))
   adds_holds' i j (made_up h) = let z : ◌≡◌ {A = ℕ} 0 1 = cc in absurd (never z)
   adds_holds' i j (adds h o r) = result_adds i j o r
 
   -- a line that was added holds a calendar, and the memory holds it too
-  pub adds_holds : {n k : ℕ} {m' : Memory} → n ≡ length hs → Adds m n l m' (Ok k)
+  pub adds_holds : {n k : ℕ} {m' : Names} → n ≡ length hs → Adds m n l m' (Ok k)
       → (h : House) × LineMeans hs l (holds h) × Holds m' (hs ++ (h ∷ [])) × (k ≡ length (hs ++ (h ∷ [])))
   adds_holds i w = adds_holds' i refl w
 
-  result_refused : {n : ℕ} {e : LineMeaning} {m' : Memory} {a : Result ℕ Refusal} {f : Refusal} → n ≡ length hs → a ≡ Err f → OfLine (TakenIn m) (FreeIn m) (n + 1) l e → Result m n e m' a → LineMeans hs l (C.refuses f) × (m' ≡ m)
+  result_refused : {n : ℕ} {e : LineMeaning} {m' : Names} {a : Result ℕ Refusal} {f : Refusal} → n ≡ length hs → a ≡ Err f → OfLine (TakenIn m) (FreeIn m) (n + 1) l e → Result m n e m' a → LineMeans hs l (C.refuses f) × (m' ≡ m)
   result_refused {n} {f = f} i j o (left_as {f = q}) =
       let p : q ≡ f = cc in
       (lined (subst (λ (x : ℕ). OfLine (TakenIn m) (FreeIn m) (x + 1) l (C.refuses f)) i (subst (λ (x : Refusal). OfLine (TakenIn m) (FreeIn m) (n + 1) l (C.refuses x)) p o)), refl)
   result_refused i j o (added d u) = let z : ◌≡◌ {A = ℕ} 0 1 = cc in absurd (never z)
 
-  adds_refused' : {n : ℕ} {m' : Memory} {a : Result ℕ Refusal} {f : Refusal} → n ≡ length hs → a ≡ Err f → Adds m n l m' a → LineMeans hs l (C.refuses f) × (m' ≡ m)
+  adds_refused' : {n : ℕ} {m' : Names} {a : Result ℕ Refusal} {f : Refusal} → n ≡ length hs → a ≡ Err f → Adds m n l m' a → LineMeans hs l (C.refuses f) × (m' ≡ m)
   adds_refused' i j (made_up h) = absurd (omega (arith, g.few))
   adds_refused' i j (adds h o r) = result_refused i j o r
 
   -- one that was refused is refused so, and the memory is as it was
-  pub adds_refused : {n : ℕ} {m' : Memory} {f : Refusal} → n ≡ length hs → Adds m n l m' (Err f) → LineMeans hs l (C.refuses f) × (m' ≡ m)
+  pub adds_refused : {n : ℕ} {m' : Names} {f : Refusal} → n ≡ length hs → Adds m n l m' (Err f) → LineMeans hs l (C.refuses f) × (m' ≡ m)
   adds_refused i w = adds_refused' i refl w
 
 -- ---- a whole catalogue, line after line
@@ -156,7 +157,7 @@ run_means {input} {front} {ls} {hs} w h ends = all_hold (subst (Lines input) (ap
 run_means {input} {front} w h (next {l = l} {ls = ks} p r) = run_means (subst (Lines input) (sym (append_assoc front (l ∷ []) ks)) w) (Hold.more h p) r
 run_means w h (stops {ls = ks} p) = first_refused ks w h p
 
-reading_means : {input : List ℕ} {front ls : List (List ℕ)} {hs : List House} {m m' : Memory} {n : ℕ} {a : Result ℕ Refusal} → Lines input (front ++ ls) → Hold front hs → Holds m hs → n ≡ length hs → Reading m n ls m' a → Read input m' a
+reading_means : {input : List ℕ} {front ls : List (List ℕ)} {hs : List House} {m m' : Names} {n : ℕ} {a : Result ℕ Refusal} → Lines input (front ++ ls) → Hold front hs → Holds m hs → n ≡ length hs → Reading m n ls m' a → Read input m' a
 reading_means {input} {front} w h g i read_all = is_catalogue (run_means w h ends) g i
 reading_means {input} {front} w h g i (read_on {l = l} {ls = ks} p r) =
     let (x, y, z, e) = adds_holds g i p in
@@ -164,11 +165,11 @@ reading_means {input} {front} w h g i (read_on {l = l} {ls = ks} p r) =
 reading_means w h g i (read_refused p) = is_refused (run_means w h (stops (adds_refused g i p).0))
 
 -- from memory that holds nothing
-pub reads_catalogue : {input : List ℕ} {ls : List (List ℕ)} {m m' : Memory} {a : Result ℕ Refusal} → Lines input ls → Holds m [] → Reading m 0 ls m' a → Read input m' a
+pub reads_catalogue : {input : List ℕ} {ls : List (List ℕ)} {m m' : Names} {a : Result ℕ Refusal} → Lines input ls → Holds m [] → Reading m 0 ls m' a → Read input m' a
 reads_catalogue w g r = reading_means w Hold.none g (omega arith) r
 
 -- two readings of one file come to the same
-pub read_one : {input : List ℕ} {m₁ m₂ : Memory} {a b : Result ℕ Refusal} → Read input m₁ a → Read input m₂ b → a ≡ b
+pub read_one : {input : List ℕ} {m₁ m₂ : Names} {a b : Result ℕ Refusal} → Read input m₁ a → Read input m₂ b → a ≡ b
 read_one (is_catalogue {hs} p g i) (is_catalogue {hs = ks} q h j) =
     let e : catalogue hs ≡ catalogue ks = means_one p q in
     let d : hs ≡ ks = cc in
@@ -259,7 +260,7 @@ names_with_one p s a b (C.unknown n o) (of_house m k h e) = absurd (o (k, h, e))
 names_with_one p s a b (C.unknown n o) (C.unknown m q) = refl
 
 -- what is looked up in memory that holds the catalogue is what the catalogue says
-module _ {input : List ℕ} {hs : List House} (p : Means input (catalogue hs)) {m : Memory} (g : Holds m hs) where
+module _ {input : List ℕ} {hs : List House} (p : Means input (catalogue hs)) {m : Names} (g : Holds m hs) where
   house_named : {s : List ℕ} {z : ℤ} {a : Result Calendar Refusal} {b : Option ℤ} → ¬ Known s → b ≡ Some z → Has hs s b → HouseCalendar z a → NamesWith hs s a
   house_named {s} {z} {a} n e (has k h i) (refuses o) = let j : (line_at hs k).number ≡ z = cc in absurd (o (subst AcceptedReformation j ((means_sound p).takes k h)))
   house_named {s} {z} {a} n e (has k h i) (passes o q) =
@@ -273,7 +274,7 @@ module _ {input : List ℕ} {hs : List House} (p : Means input (catalogue hs)) {
   named_with {s} (R.unknown n f) = C.unknown n (not_named g refl (finds_has g s f))
 
 -- whatever the memory holds, a calendar that is given is accepted
-pub named_accepted : {m : Memory} {s : List ℕ} {a : Result Calendar Refusal} → NamesIn m s a → {c : Calendar} → a ≡ Ok c → Accepted c
+pub named_accepted : {m : Names} {s : List ℕ} {a : Result Calendar Refusal} → NamesIn m s a → {c : Calendar} → a ≡ Ok c → Accepted c
 named_accepted (R.built_in (of_row {c = b} x)) {c} e = let i : b ≡ c = cc in subst Accepted i (table_accepted x)
 named_accepted (held n f (refuses o)) e = let z : ◌≡◌ {A = ℕ} 0 1 = cc in absurd (never z)
 named_accepted (held n {z} f (passes o q)) {c} e = let i : Reforming z ≡ c = cc in subst Accepted i (reforming_accepted o)

@@ -7,21 +7,21 @@
 ghost use Rattle.std.specs.Prelude.{◌≤◌, ◌<◌, ◌^◌, ◌≡◌, pos, length, take};
 ghost use Rattle.refusals.specs.Promise.{refusal};
 ghost use Rattle.nametable.specs.Limits.{most_lines, most_name};
-ghost use Rattle.nametable.specs.Promise.{memory, Enters};
+ghost use Rattle.nametable.specs.Promise.{Enters};
 ghost use Rattle.catalogue.specs.Promise.{IsTaken, AddsHouse, Adds, HouseCalendar, NamesIn};
 
 use calendar::Calendar;
 use houseline::HouseLine;
-pub use nametable::{LINES, LINK_COUNT, Links, NAME, NAME_BYTES, Names};
+pub use nametable::{LINES, NAME, Names};
 use refusals::{Refusal, refusal_at};
 
 // Whether a name is taken, by a calendar that is built in or by one that is held.
-fn is_taken(names: &Names, links: &Links, name: &[u8]) -> bool
-    ensures { IsTaken (memory names.now links.now) name.now result }
+fn is_taken(names: &Names, name: &[u8]) -> bool
+    ensures { IsTaken names.now name.now result }
 {
     match ncal::look_up(name) {
         ncal::Found::Calendar(_) => true,
-        ncal::Found::Nothing => match nametable::find(names, links, name) {
+        ncal::Found::Nothing => match names.find(name) {
             Some(_) => true,
             None => false,
         },
@@ -29,25 +29,24 @@ fn is_taken(names: &Names, links: &Links, name: &[u8]) -> bool
 }
 
 // The name is the front of the line. It is lent in a function of its own.
-fn front_taken(names: &Names, links: &Links, line: &[u8], end: usize) -> bool
+fn front_taken(names: &Names, line: &[u8], end: usize) -> bool
     requires { end ≤ length line.now }
-    ensures { IsTaken (memory names.now links.now) (take end line.now) result }
+    ensures { IsTaken names.now (take end line.now) result }
 {
-    is_taken(names, links, &line[..end])
+    is_taken(names, &line[..end])
 }
 
 fn enter_front(
     names: &mut Names,
-    links: &mut Links,
     k: usize,
     line: &[u8],
     end: usize,
     r: i32,
 ) -> bool
     requires { end ≤ length line.now }
-    ensures { Enters (memory names.old links.old) k (take end line.now) r (memory names.new links.new) result }
+    ensures { Enters names.old k (take end line.now) r names.new result }
 {
-    nametable::enter(names, links, k, &line[..end], r)
+    names.enter(k, &line[..end], r)
 }
 
 // 11 or 28, of line n: the place in the line, at which its number leaves 32 bits, is the value.
@@ -74,16 +73,15 @@ fn refused_reformation(number: u32, n: usize, r: i32) -> Refusal
 #[tactic(auto, using(crate::proofs::Laws::house_over_told))]
 fn add_house(
     names: &mut Names,
-    links: &mut Links,
     count: usize,
     line: &[u8],
     end: usize,
     r: i32,
 ) -> Result<usize, Refusal>
     requires { (count ≤ most_lines) × ((end ≤ length line.now) × (end ≤ most_name)) }
-    ensures { AddsHouse (memory names.old links.old) count (take end line.now) r (memory names.new links.new) result }
+    ensures { AddsHouse names.old count (take end line.now) r names.new result }
 {
-    if front_taken(names, links, line, end) {
+    if front_taken(names, line, end) {
         return Err(refusal_at(23, count + 1, 0));
     }
     if LINES <= count {
@@ -92,15 +90,15 @@ fn add_house(
     match switches::reformation::judge(r) {
         Err(number) => Err(refused_reformation(number, count + 1, r)),
         Ok(_) => {
-            enter_front(names, links, count, line, end, r);
+            enter_front(names, count, line, end, r);
             Ok(count + 1)
         }
     }
 }
 
 // One line more. The first that is refused refuses the whole catalogue, so every line before this one is held, and `count` tells how many they are.
-pub fn add_line(names: &mut Names, links: &mut Links, count: usize, line: &[u8]) -> Result<usize, Refusal>
-    ensures { Adds (memory names.old links.old) count line.now (memory names.new links.new) result }
+pub fn add_line(names: &mut Names, count: usize, line: &[u8]) -> Result<usize, Refusal>
+    ensures { Adds names.old count line.now names.new result }
 {
     if LINES < count {
         return Err(refusal_at(16, 0, 0));
@@ -108,7 +106,7 @@ pub fn add_line(names: &mut Names, links: &mut Links, count: usize, line: &[u8])
     match houseline::read_line(line) {
         HouseLine::Malformed => Err(refusal_at(22, count + 1, 0)),
         HouseLine::Outside(f) => Err(refused_number(count + 1, f)),
-        HouseLine::House(end, r) => add_house(names, links, count, line, end, r),
+        HouseLine::House(end, r) => add_house(names, count, line, end, r),
     }
 }
 
@@ -123,12 +121,12 @@ fn house_calendar(r: i32) -> Result<Calendar, Refusal>
 }
 
 // The calendar of a name, built in or held.
-pub fn named(names: &Names, links: &Links, name: &[u8]) -> Result<Calendar, Refusal>
-    ensures { NamesIn (memory names.now links.now) name.now result }
+pub fn named(names: &Names, name: &[u8]) -> Result<Calendar, Refusal>
+    ensures { NamesIn names.now name.now result }
 {
     match ncal::look_up(name) {
         ncal::Found::Calendar(calendar) => Ok(calendar),
-        ncal::Found::Nothing => match nametable::find(names, links, name) {
+        ncal::Found::Nothing => match names.find(name) {
             Some(r) => house_calendar(r),
             None => Err(refusal_at(19, 0, 0)),
         },

@@ -8,7 +8,7 @@
 ghost use Rattle.std.specs.Prelude.{◌≡◌, ◌+◌, ◌<◌, ◌≤◌, length};
 
 use calendar::Calendar;
-use catalogue::{LINK_COUNT, Links, NAME_BYTES, Names};
+use catalogue::Names;
 use catalogueread::{LONGEST_READ, Progress};
 use refusals::Refusal;
 
@@ -20,7 +20,6 @@ fn read_rest(
     rest: &[u8],
     reached: Progress,
     names: &mut Names,
-    links: &mut Links,
     line: &mut [u8; LONGEST_READ],
 ) -> Result<usize, Refusal> {
     let from = Progress {
@@ -28,14 +27,14 @@ fn read_rest(
         lines: reached.lines,
         held: reached.held,
     };
-    match catalogueread::read_block(names, links, line, rest, from) {
+    match catalogueread::read_block(names, line, rest, from) {
         Err(why) => Err(why),
-        Ok(p) => catalogueread::read_last(names, links, line, p.lines, p.held),
+        Ok(p) => catalogueread::read_last(names, line, p.lines, p.held),
     }
 }
 
 // As two blocks, the first of `cut` bytes.
-fn read_cut(file: &[u8], cut: usize, names: &mut Names, links: &mut Links) -> Result<usize, Refusal>
+fn read_cut(file: &[u8], cut: usize, names: &mut Names) -> Result<usize, Refusal>
     requires { cut ≤ length file.now }
 {
     let mut line = [0u8; LONGEST_READ];
@@ -44,9 +43,9 @@ fn read_cut(file: &[u8], cut: usize, names: &mut Names, links: &mut Links) -> Re
         lines: 0,
         held: 0,
     };
-    match catalogueread::read_block(names, links, &mut line, &file[..cut], start) {
+    match catalogueread::read_block(names, &mut line, &file[..cut], start) {
         Err(why) => Err(why),
-        Ok(p) => read_rest(&file[cut..], p, names, links, &mut line),
+        Ok(p) => read_rest(&file[cut..], p, names, &mut line),
     }
 }
 
@@ -67,7 +66,7 @@ fn same_answer(a: Result<usize, Refusal>, b: Result<usize, Refusal>) -> bool {
     }
 }
 
-fn same_memory(names: &Names, links: &Links, other_names: &Names, other_links: &Links) -> bool {
+fn same_memory(names: &Names, other: &Names) -> bool {
     let mut i: usize = 0;
     while i < LINK_COUNT {
         if links[i] != other_links[i] {
@@ -78,13 +77,13 @@ fn same_memory(names: &Names, links: &Links, other_names: &Names, other_links: &
     names[..] == other_names[..]
 }
 
-fn is_same(file: &[u8], cut: usize, names: &Names, links: &Links, expected: Result<usize, Refusal>) -> bool
+fn is_same(file: &[u8], cut: usize, names: &Names, expected: Result<usize, Refusal>) -> bool
     requires { cut ≤ length file.now }
 {
     let mut other_names = [0u8; NAME_BYTES];
     let mut other_links = [0u32; LINK_COUNT];
     let answer = read_cut(file, cut, &mut other_names, &mut other_links);
-    same_answer(answer, expected) && same_memory(names, links, &other_names, &other_links)
+    same_answer(answer, expected) && same_memory(names, &other_names, &other_links)
 }
 
 // A short catalogue is cut before each of its bytes; a long one before some, and before each of the last.
@@ -95,12 +94,12 @@ fn is_cut(size: usize, cut: usize) -> bool
 }
 
 // How many of the ways to cut a catalogue come to the same.
-fn same_ways(file: &[u8], names: &Names, links: &Links, expected: Result<usize, Refusal>) -> u64 {
+fn same_ways(file: &[u8], names: &Names, expected: Result<usize, Refusal>) -> u64 {
     let mut same: u64 = 0;
     let mut cut: usize = 0;
     while cut < file.len() {
         if is_cut(file.len(), cut) {
-            if is_same(file, cut, names, links, expected) {
+            if is_same(file, cut, names, expected) {
                 same = std::num::wrapping_add_u64(same, 1);
             }
         }
@@ -157,18 +156,18 @@ fn write_named(rt: &HostRuntime, answer: Result<Calendar, Refusal>) {
 
 // ---- The pieces of the input
 
-fn answer_catalogue(rt: &HostRuntime, file: &[u8], names: &mut Names, links: &mut Links) {
-    let answer = read_cut(file, file.len(), names, links);
+fn answer_catalogue(rt: &HostRuntime, file: &[u8], names: &mut Names) {
+    let answer = read_cut(file, file.len(), names);
     write_answer(rt, answer);
     streams::print(rt, b"\t");
-    streams::print_decimal(rt, same_ways(file, names, links, answer));
+    streams::print_decimal(rt, same_ways(file, names, answer));
 }
 
-fn answer_piece(rt: &HostRuntime, kind: u8, bytes: &[u8], names: &mut Names, links: &mut Links) {
+fn answer_piece(rt: &HostRuntime, kind: u8, bytes: &[u8], names: &mut Names) {
     if kind == b'c' {
-        answer_catalogue(rt, bytes, names, links);
+        answer_catalogue(rt, bytes, names);
     } else {
-        write_named(rt, catalogue::named(names, links, bytes));
+        write_named(rt, catalogue::named(names, bytes));
     }
     streams::print(rt, b"\n");
 }
@@ -216,8 +215,7 @@ fn piece_at(input: &[u8], at: usize) -> Piece
 }
 
 fn answer_all(rt: &HostRuntime, input: &[u8]) {
-    let mut names = [0u8; NAME_BYTES];
-    let mut links = [0u32; LINK_COUNT];
+    let mut names = Names::new();
     let mut at: usize = 0;
     while at < input.len() {
         let kind = input[at];
@@ -228,7 +226,7 @@ fn answer_all(rt: &HostRuntime, input: &[u8]) {
         let piece = piece_at(input, at);
         let from = piece.from;
         let to = piece.to;
-        answer_piece(rt, kind, &input[from..to], &mut names, &mut links);
+        answer_piece(rt, kind, &input[from..to], &mut names);
         at = piece.next;
     }
 }

@@ -4,7 +4,7 @@
 
 #![tactic(auto)]
 
-use catalogue::{Links, Names};
+use catalogue::Names;
 use cataloguerun::CatalogueRun;
 pub use cataloguerun::LONGEST_READ;
 use filter::{BLOCK_SIZE, State};
@@ -31,7 +31,6 @@ fn open_catalogue(rt: &HostRuntime) -> io::Result<File> {
 fn read_file(
     file: File,
     names: &mut Names,
-    links: &mut Links,
     block: &mut [u8; BLOCK_SIZE],
     line: &mut [u8; LONGEST_READ],
 ) -> CatalogueRun {
@@ -42,7 +41,7 @@ fn read_file(
     while 0 < turns {
         if cataloguerun::reads_on(run) {
             let got = streams::read_some(&mut file, block);
-            run = cataloguerun::go_on(run, got, block, names, links, line);
+            run = cataloguerun::go_on(run, got, block, names, line);
         } else {
             return run;
         }
@@ -54,12 +53,11 @@ fn read_file(
 fn read_catalogue(
     rt: &HostRuntime,
     names: &mut Names,
-    links: &mut Links,
     block: &mut [u8; BLOCK_SIZE],
     line: &mut [u8; LONGEST_READ],
 ) -> CatalogueRun {
     match open_catalogue(rt) {
-        Ok(file) => read_file(file, names, links, block, line),
+        Ok(file) => read_file(file, names, block, line),
         Err(why) => cataloguerun::start(-1, why.kind() == ErrorKind::NotFound),
     }
 }
@@ -77,12 +75,11 @@ fn tell(rt: &HostRuntime, message: State, out: &[u8; BLOCK_SIZE]) {
 pub fn read(
     rt: &HostRuntime,
     names: &mut Names,
-    links: &mut Links,
     block: &mut [u8; BLOCK_SIZE],
     line: &mut [u8; LONGEST_READ],
     out: &mut [u8; BLOCK_SIZE],
 ) -> CatalogueRun {
-    let run = read_catalogue(rt, names, links, block, line);
+    let run = read_catalogue(rt, names, block, line);
     tell(rt, cataloguerun::complain(run, out), out);
     run
 }

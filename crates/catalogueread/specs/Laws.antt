@@ -4,7 +4,7 @@ use Rattle.std.specs.Prelude.{ℕ, ◌≤◌, ◌<◌, ◌≡◌, List, length, 
 use Rattle.std.proofs.Common.{subst, arith}
 use Rattle.textlines.specs.Laws.{rest_grows, line_grows}
 use Rattle.nametable.specs.Limits.{most_lines}
-use Rattle.nametable.specs.Promise.{Memory}
+use Rattle.nametable.specs.declared.Names.{Names}
 use Rattle.catalogueread.specs.Promise.{made_up_value, AddsHeld, ReadState, going, Reached, ReadsNext, ReadsBlock, ReadsLast}
 use Rattle.refusals.specs.declared.Refusal.{Refusal}
 
@@ -20,12 +20,12 @@ next_grows (ReadsNext.line f g) h = line_grows f
 
 -- ---- the end of the file, where a line is held
 
-pub last_more : {m : Memory} {n : ℕ} {l : List ℕ} {h : ℕ} {m' : Memory} {a : Result ℕ Refusal} → 0 < h → AddsHeld m n l h m' a → ReadsLast m n l h m' a
+pub last_more : {m : Names} {n : ℕ} {l : List ℕ} {h : ℕ} {m' : Names} {a : Result ℕ Refusal} → 0 < h → AddsHeld m n l h m' a → ReadsLast m n l h m' a
 last_more = ReadsLast.one_more
 
 -- ---- and where nothing is held
 
-module _ {m : Memory} {n : ℕ} {l : List ℕ} {h : ℕ} (k : h ≤ 0) where
+module _ {m : Names} {n : ℕ} {l : List ℕ} {h : ℕ} (k : h ≤ 0) where
   nothing : {a : Result ℕ Refusal} → ReadsLast m n l 0 m a → ReadsLast m n l h m a
   nothing {a} r = let e : 0 ≡ h = omega arith in subst (λ (x : ℕ). ReadsLast m n l x m a) e r
 

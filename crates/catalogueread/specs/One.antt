@@ -5,11 +5,11 @@ use Rattle.std.proofs.Common.{sym, ◌∙◌, ap, ap₂, subst, arith}
 use Rattle.bytesearch.specs.One.{never}
 use Rattle.refusals.specs.declared.Refusal.{Refusal}
 use Rattle.textlines.specs.One.{takes_rest_one, takes_line_one, rest_or_line}
-use Rattle.nametable.specs.Promise.{Memory}
+use Rattle.nametable.specs.declared.Names.{Names}
 use Rattle.catalogue.proofs.One.{adds_one}
 use Rattle.catalogueread.specs.Promise.{AddsHeld, ReadState, read_state, Reached, going, stopped, ReadsNext, ReadsBlock, ReadsLast}
 
-adds_held_one : {m : Memory} {n : ℕ} {l : List ℕ} {h : ℕ} {m₁ m₂ : Memory} {a b : Result ℕ Refusal} → AddsHeld m n l h m₁ a → AddsHeld m n l h m₂ b → (m₁ ≡ m₂) × (a ≡ b)
+adds_held_one : {m : Names} {n : ℕ} {l : List ℕ} {h : ℕ} {m₁ m₂ : Names} {a b : Result ℕ Refusal} → AddsHeld m n l h m₁ a → AddsHeld m n l h m₂ b → (m₁ ≡ m₂) × (a ≡ b)
 adds_held_one (AddsHeld.no_count i) (AddsHeld.no_count j) = (refl, refl)
 adds_held_one (AddsHeld.no_count i) (AddsHeld.short j k p) = absurd (omega arith)
 adds_held_one (AddsHeld.no_count i) (AddsHeld.long j k) = absurd (omega arith)
@@ -21,16 +21,16 @@ adds_held_one (AddsHeld.long i h) (AddsHeld.short j k q) = absurd (omega arith)
 adds_held_one (AddsHeld.long i h) (AddsHeld.long j k) = (refl, refl)
 
 -- the same line, held in the same way
-held_same : {m : Memory} {n : ℕ} {l k : List ℕ} {h i : ℕ} {m₁ m₂ : Memory} {a b : Result ℕ Refusal} → l ≡ k → h ≡ i → AddsHeld m n l h m₁ a → AddsHeld m n k i m₂ b → (m₁ ≡ m₂) × (a ≡ b)
+held_same : {m : Names} {n : ℕ} {l k : List ℕ} {h i : ℕ} {m₁ m₂ : Names} {a b : Result ℕ Refusal} → l ≡ k → h ≡ i → AddsHeld m n l h m₁ a → AddsHeld m n k i m₂ b → (m₁ ≡ m₂) × (a ≡ b)
 held_same {m} {n} {l} {k} {h} {i} {m₂ = m₂} {b = b} e d p q =
     adds_held_one p (subst (λ (x : List ℕ). AddsHeld m n x h m₂ b) (sym e) (subst (λ (x : ℕ). AddsHeld m n k x m₂ b) (sym d) q))
 
-same_state : {i j : ℕ} {m₁ m₂ : Memory} {n k : ℕ} {l₁ l₂ : List ℕ} {g h : ℕ} → i ≡ j → m₁ ≡ m₂ → n ≡ k → l₁ ≡ l₂ → g ≡ h → going (read_state i m₁ n l₁ g) ≡ going (read_state j m₂ k l₂ h)
+same_state : {i j : ℕ} {m₁ m₂ : Names} {n k : ℕ} {l₁ l₂ : List ℕ} {g h : ℕ} → i ≡ j → m₁ ≡ m₂ → n ≡ k → l₁ ≡ l₂ → g ≡ h → going (read_state i m₁ n l₁ g) ≡ going (read_state j m₂ k l₂ h)
 same_state {i} {j} {m₁} {m₂} {n} {k} {l₁} {l₂} {g} a b c d e =
-    ap (λ (x : ℕ). going (read_state x m₁ n l₁ g)) a ∙ ap (λ (x : Memory). going (read_state j x n l₁ g)) b ∙ ap (λ (x : ℕ). going (read_state j m₂ x l₁ g)) c ∙ ap (λ (x : List ℕ). going (read_state j m₂ k x g)) d ∙ ap (λ (x : ℕ). going (read_state j m₂ k l₂ x)) e
+    ap (λ (x : ℕ). going (read_state x m₁ n l₁ g)) a ∙ ap (λ (x : Names). going (read_state j x n l₁ g)) b ∙ ap (λ (x : ℕ). going (read_state j m₂ x l₁ g)) c ∙ ap (λ (x : List ℕ). going (read_state j m₂ k x g)) d ∙ ap (λ (x : ℕ). going (read_state j m₂ k l₂ x)) e
 
-same_stop : {m₁ m₂ : Memory} {l₁ l₂ : List ℕ} {f g : Refusal} → m₁ ≡ m₂ → l₁ ≡ l₂ → f ≡ g → stopped m₁ l₁ f ≡ stopped m₂ l₂ g
-same_stop {m₁} {m₂} {l₁} {l₂} {f} a b c = ap₂ (λ (x : Memory) (y : List ℕ). stopped x y f) a b ∙ ap (stopped m₂ l₂) c
+same_stop : {m₁ m₂ : Names} {l₁ l₂ : List ℕ} {f g : Refusal} → m₁ ≡ m₂ → l₁ ≡ l₂ → f ≡ g → stopped m₁ l₁ f ≡ stopped m₂ l₂ g
+same_stop {m₁} {m₂} {l₁} {l₂} {f} a b c = ap₂ (λ (x : Names) (y : List ℕ). stopped x y f) a b ∙ ap (stopped m₂ l₂) c
 
 next_one : {b : List ℕ} {s : ReadState} {d e : Reached} → ReadsNext b s d → ReadsNext b s e → d ≡ e
 next_one (ReadsNext.rest f) (ReadsNext.rest g) = let (i, l, h) = takes_rest_one f g in same_state i refl refl l h
@@ -79,7 +79,7 @@ read_block_one (ReadsBlock.stops {m = m} {l = l} {f = f} h v) (ReadsBlock.goes_o
     absurd (never z)
 read_block_one (ReadsBlock.stops h v) (ReadsBlock.stops k w) = next_one v w
 
-pub read_last_one : {m : Memory} {n : ℕ} {l : List ℕ} {h : ℕ} {m₁ m₂ : Memory} {a b : Result ℕ Refusal} → ReadsLast m n l h m₁ a → ReadsLast m n l h m₂ b → (m₁ ≡ m₂) × (a ≡ b)
+pub read_last_one : {m : Names} {n : ℕ} {l : List ℕ} {h : ℕ} {m₁ m₂ : Names} {a b : Result ℕ Refusal} → ReadsLast m n l h m₁ a → ReadsLast m n l h m₂ b → (m₁ ≡ m₂) × (a ≡ b)
 read_last_one (ReadsLast.one_more h p) (ReadsLast.one_more k q) = adds_held_one p q
 read_last_one (ReadsLast.one_more h p) (ReadsLast.no_count k) = absurd (omega arith)
 read_last_one (ReadsLast.one_more h p) (ReadsLast.no_more k) = absurd (omega arith)

@@ -5,11 +5,10 @@
 #![tactic(auto)]
 
 ghost use Rattle.std.specs.Prelude.{◌<◌, ◌≤◌, length, take};
-ghost use Rattle.nametable.specs.Promise.{memory};
 ghost use Rattle.catalogue.specs.Promise.{Adds};
 ghost use Rattle.catalogueread.specs.Promise.{AddsHeld, read_state, reached, ReadsNext, ReadsBlock, ReadsLast};
 
-use catalogue::{LINES, Links, Names};
+use catalogue::{LINES, Names};
 use refusals::{Refusal, refusal_at};
 pub use textlines::LONGEST_READ;
 
@@ -21,28 +20,27 @@ pub struct Progress {
     pub held: usize,
 }
 
-fn add_front(names: &mut Names, links: &mut Links, lines: usize, line: &[u8], held: usize) -> Result<usize, Refusal>
+fn add_front(names: &mut Names, lines: usize, line: &[u8], held: usize) -> Result<usize, Refusal>
     requires { held ≤ length line.now }
-    ensures { Adds (memory names.old links.old) lines (take held line.now) (memory names.new links.new) result }
+    ensures { Adds names.old lines (take held line.now) names.new result }
 {
-    catalogue::add_line(names, links, lines, &line[..held])
+    catalogue::add_line(names, lines, &line[..held])
 }
 
 // The line that is held has ended.
 fn add_held(
     names: &mut Names,
-    links: &mut Links,
     lines: usize,
     line: &[u8; LONGEST_READ],
     held: usize,
 ) -> Result<usize, Refusal>
-    ensures { AddsHeld (memory names.old links.old) lines line.now held (memory names.new links.new) result }
+    ensures { AddsHeld names.old lines line.now held names.new result }
 {
     if LINES < lines {
         return Err(refusal_at(16, 0, 0));
     }
     if held <= LONGEST_READ {
-        return add_front(names, links, lines, line, held);
+        return add_front(names, lines, line, held);
     }
     Err(refusal_at(22, lines + 1, 0))
 }
@@ -50,20 +48,19 @@ fn add_held(
 // Reads one line of the block, or holds what the block has of it.
 fn read_next(
     names: &mut Names,
-    links: &mut Links,
     line: &mut [u8; LONGEST_READ],
     block: &[u8],
     from: Progress,
 ) -> Result<Progress, Refusal>
     requires { from.at < length block.now }
-    ensures { ReadsNext block.now (read_state from.at (memory names.old links.old) from.lines line.old from.held) (reached result (memory names.new links.new) line.new) }
+    ensures { ReadsNext block.now (read_state from.at names.old from.lines line.old from.held) (reached result names.new line.new) }
 {
     let at = from.at;
     let end = bytesearch::by_eights(block, at, b'\n');
     let n = textlines::add_to_line(line, from.held, &block[at..end]);
     if end < block.len() {
         let next = end + 1;
-        return match add_held(names, links, from.lines, line, n) {
+        return match add_held(names, from.lines, line, n) {
             Err(why) => Err(why),
             Ok(lines) => Ok(Progress {
                 at: next,
@@ -82,16 +79,15 @@ fn read_next(
 // Reads the lines that end in a block, from an offset on, up to the first that is refused. A line that is held goes on in the next block.
 pub fn read_block(
     names: &mut Names,
-    links: &mut Links,
     line: &mut [u8; LONGEST_READ],
     block: &[u8],
     from: Progress,
 ) -> Result<Progress, Refusal>
-    ensures { ReadsBlock block.now (read_state from.at (memory names.old links.old) from.lines line.old from.held) (reached result (memory names.new links.new) line.new) }
+    ensures { ReadsBlock block.now (read_state from.at names.old from.lines line.old from.held) (reached result names.new line.new) }
 {
     let mut p = from;
     while p.at < block.len() {
-        match read_next(names, links, line, block, p) {
+        match read_next(names, line, block, p) {
             Err(why) => return Err(why),
             Ok(next) => {
                 p = next;
@@ -105,15 +101,14 @@ pub fn read_block(
 #[tactic(auto, using(crate::specs::Laws::last_more))]
 pub fn read_last(
     names: &mut Names,
-    links: &mut Links,
     line: &[u8; LONGEST_READ],
     lines: usize,
     held: usize,
 ) -> Result<usize, Refusal>
-    ensures { ReadsLast (memory names.old links.old) lines line.now held (memory names.new links.new) result }
+    ensures { ReadsLast names.old lines line.now held names.new result }
 {
     if 0 < held {
-        return add_held(names, links, lines, line, held);
+        return add_held(names, lines, line, held);
     }
     if LINES < lines {
         return Err(refusal_at(16, 0, 0));

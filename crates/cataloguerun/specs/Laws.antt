@@ -12,7 +12,7 @@ use Rattle.linetext.specs.Laws.{Text, put_text, text_then}
 use Rattle.filter.specs.Promise.{arrived_of, block_size}
 use Rattle.filter.specs.declared.State.{State}
 use Rattle.filter.specs.declared.Event.{Event}
-use Rattle.nametable.specs.Promise.{Memory}
+use Rattle.nametable.specs.declared.Names.{Names}
 use Rattle.cataloguerun.specs.declared.CatalogueRun.{CatalogueRun}
 use Rattle.cataloguerun.specs.declared.CatalogueRun.TheVariants.{Reading, Ready, Unread}
 use Rattle.catalogueread.specs.Promise.{ReadState, Reached, ReadsBlock}
@@ -43,10 +43,10 @@ pub reads_in : {c d : List ℕ} {s : ReadState} {e : Reached} → c ≡ d → Re
 reads_in {s = s} {e} q w = subst (λ (x : List ℕ). ReadsBlock x s e) q w
 
 -- where the answer of the read was handed on as g
-pub goes : {b l l' : List ℕ} {m m' : Memory} {run r s : CatalogueRun} {x y : Event} {g z : ℤ} → run ≡ r → g ≡ z → x ≡ arrived_of g → x ≡ y → GoesOn b m l r y m' l' s → GoesOn b m l run (arrived_of z) m' l' s
+pub goes : {b l l' : List ℕ} {m m' : Names} {run r s : CatalogueRun} {x y : Event} {g z : ℤ} → run ≡ r → g ≡ z → x ≡ arrived_of g → x ≡ y → GoesOn b m l r y m' l' s → GoesOn b m l run (arrived_of z) m' l' s
 goes {b} {l} {l'} {m} {m'} {r = r} {s} {z = z} q d e f w = subst (λ (v : CatalogueRun). GoesOn b m l v (arrived_of z) m' l' s) (sym q) (subst (λ (v : Event). GoesOn b m l r v m' l' s) (sym f ∙ e ∙ ap arrived_of d) w)
 
-pub stays : {b l : List ℕ} {m : Memory} {run r : CatalogueRun} {e : Event} → run ≡ r → reads_on_value r ≡ false → GoesOn b m l run e m l r
+pub stays : {b l : List ℕ} {m : Names} {run r : CatalogueRun} {e : Event} → run ≡ r → reads_on_value r ≡ false → GoesOn b m l run e m l r
 stays {b} {l} {m} {r = r} {e} q h = subst (λ (v : CatalogueRun). GoesOn b m l v e m l r) (sym q) (GoesOn.over h)
 
 pub complains : {o o' : List ℕ} {run r : CatalogueRun} {s t : State} → run ≡ r → s ≡ t → Complains o r o' t → Complains o run o' s

@@ -10,7 +10,7 @@ use Rattle.filter.specs.declared.Phase.TheVariants.{Failing}
 use Rattle.filter.specs.declared.State.{State}
 use Rattle.filter.specs.Promise.{state_with_value}
 use Rattle.filter.specs.One.{puts_message_one}
-use Rattle.nametable.specs.Promise.{Memory}
+use Rattle.nametable.specs.declared.Names.{Names}
 use Rattle.catalogueread.specs.Promise.{read_state, Reached, going, stopped, ReadsBlock, ReadsLast}
 use Rattle.catalogueread.specs.One.{read_block_one, read_last_one}
 use Rattle.cataloguerun.specs.declared.CatalogueRun.{CatalogueRun}
@@ -18,7 +18,7 @@ use Rattle.cataloguerun.specs.Promise.{Advances, Closes, GoesOn, refused_at, wor
 use Rattle.refusals.specs.declared.Refusal.{Refusal}
 
 -- what a block that was read comes to
-memory_of : Reached → Memory
+memory_of : Reached → Names
 memory_of (going s) = s.held_in
 memory_of (stopped m l f) = m
 
@@ -30,14 +30,14 @@ run_of : Reached → CatalogueRun
 run_of (going s) = CatalogueRun.Reading s.lines s.held
 run_of (stopped m l f) = CatalogueRun.Refused f
 
-module _ {b : List ℕ} {from k : ℕ} {m : Memory} {n : ℕ} {l : List ℕ} {h : ℕ} where
-  reached_by : {m' : Memory} {l' : List ℕ} {r : CatalogueRun} → Advances b from k m n l h m' l' r
+module _ {b : List ℕ} {from k : ℕ} {m : Names} {n : ℕ} {l : List ℕ} {h : ℕ} where
+  reached_by : {m' : Names} {l' : List ℕ} {r : CatalogueRun} → Advances b from k m n l h m' l' r
       → (e : Reached) × ReadsBlock (take k b) (read_state from m n l h) e × (memory_of e ≡ m') × (line_of e ≡ l') × (run_of e ≡ r)
   unfolding memory_of line_of run_of
   reached_by (Advances.reads {s} w) = (going s, w, refl, refl, refl)
   reached_by (Advances.refuses {m'} {l'} {f} w) = (stopped m' l' f, w, refl, refl, refl)
 
-  advances_one : {m₁ m₂ : Memory} {l₁ l₂ : List ℕ} {r s : CatalogueRun} → Advances b from k m n l h m₁ l₁ r → Advances b from k m n l h m₂ l₂ s → (m₁ ≡ m₂) × (l₁ ≡ l₂) × (r ≡ s)
+  advances_one : {m₁ m₂ : Names} {l₁ l₂ : List ℕ} {r s : CatalogueRun} → Advances b from k m n l h m₁ l₁ r → Advances b from k m n l h m₂ l₂ s → (m₁ ≡ m₂) × (l₁ ≡ l₂) × (r ≡ s)
   advances_one v w =
       let (d, x, i, j, k) = reached_by v in
       let (e, y, i', j', k') = reached_by w in
@@ -48,20 +48,20 @@ closed_as : Result ℕ Refusal → CatalogueRun
 closed_as (Ok n) = CatalogueRun.Ready
 closed_as (Err f) = CatalogueRun.Refused f
 
-module _ {m : Memory} {n : ℕ} {l : List ℕ} {h : ℕ} where
-  added_by : {m' : Memory} {r : CatalogueRun} → Closes m n l h m' r → (a : Result ℕ Refusal) × ReadsLast m n l h m' a × (closed_as a ≡ r)
+module _ {m : Names} {n : ℕ} {l : List ℕ} {h : ℕ} where
+  added_by : {m' : Names} {r : CatalogueRun} → Closes m n l h m' r → (a : Result ℕ Refusal) × ReadsLast m n l h m' a × (closed_as a ≡ r)
   unfolding closed_as
   added_by (Closes.closes w) = (_, w, refl)
   added_by (Closes.refuses w) = (_, w, refl)
 
-  closes_one : {m₁ m₂ : Memory} {r s : CatalogueRun} → Closes m n l h m₁ r → Closes m n l h m₂ s → (m₁ ≡ m₂) × (r ≡ s)
+  closes_one : {m₁ m₂ : Names} {r s : CatalogueRun} → Closes m n l h m₁ r → Closes m n l h m₂ s → (m₁ ≡ m₂) × (r ≡ s)
   closes_one v w =
       let (a, x, i) = added_by v in
       let (b, y, j) = added_by w in
       let (p, q) = read_last_one x y in
       (p, sym i ∙ ap closed_as q ∙ j)
 
-pub go_on_one : {b : List ℕ} {m : Memory} {l : List ℕ} {t : CatalogueRun} {e : Event} {m₁ m₂ : Memory} {l₁ l₂ : List ℕ} {r s : CatalogueRun}
+pub go_on_one : {b : List ℕ} {m : Names} {l : List ℕ} {t : CatalogueRun} {e : Event} {m₁ m₂ : Names} {l₁ l₂ : List ℕ} {r s : CatalogueRun}
     → GoesOn b m l t e m₁ l₁ r → GoesOn b m l t e m₂ l₂ s → (m₁ ≡ m₂) × (l₁ ≡ l₂) × (r ≡ s)
 go_on_one (GoesOn.some v) (GoesOn.some w) = advances_one v w
 go_on_one (GoesOn.some v) (GoesOn.over h) = absurd (true≢false h)

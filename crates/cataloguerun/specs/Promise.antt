@@ -9,7 +9,7 @@ use Rattle.filter.specs.declared.Event.TheVariants as Event'
 use Rattle.filter.specs.declared.Phase.TheVariants.{Failing, Ended}
 use Rattle.filter.specs.declared.State.{State}
 use Rattle.filter.specs.Promise.{state_with_value, PutsMessage}
-use Rattle.nametable.specs.Promise.{Memory}
+use Rattle.nametable.specs.declared.Names.{Names}
 use Rattle.catalogueread.specs.Promise.{ReadState, read_state, going, stopped, ReadsBlock, ReadsLast}
 use Rattle.cataloguerun.specs.declared.CatalogueRun.{CatalogueRun}
 use Rattle.cataloguerun.specs.declared.CatalogueRun.TheVariants.{Reading, Ready, Refused, Unread}
@@ -29,19 +29,19 @@ reads_on_value (Refused f) = false
 reads_on_value Unread = false
 
 -- the first k bytes of the block b, from an offset on, where the memory m holds n lines and h bytes of a line stand in l
-pub data Advances (b : List ℕ) (from k : ℕ) (m : Memory) (n : ℕ) (l : List ℕ) (h : ℕ) : Memory → List ℕ → CatalogueRun → Type 0 where
+pub data Advances (b : List ℕ) (from k : ℕ) (m : Names) (n : ℕ) (l : List ℕ) (h : ℕ) : Names → List ℕ → CatalogueRun → Type 0 where
   reads : {s : ReadState} → ReadsBlock (take k b) (read_state from m n l h) (going s) → Advances b from k m n l h s.held_in s.line (Reading s.lines s.held)
-  refuses : {m' : Memory} {l' : List ℕ} {f : Refusal} → ReadsBlock (take k b) (read_state from m n l h) (stopped m' l' f) → Advances b from k m n l h m' l' (Refused f)
+  refuses : {m' : Names} {l' : List ℕ} {f : Refusal} → ReadsBlock (take k b) (read_state from m n l h) (stopped m' l' f) → Advances b from k m n l h m' l' (Refused f)
 
 -- the end of the file
-pub data Closes (m : Memory) (n : ℕ) (l : List ℕ) (h : ℕ) : Memory → CatalogueRun → Type 0 where
-  closes : {m' : Memory} {k : ℕ} → ReadsLast m n l h m' (Ok k) → Closes m n l h m' Ready
-  refuses : {m' : Memory} {f : Refusal} → ReadsLast m n l h m' (Err f) → Closes m n l h m' (Refused f)
+pub data Closes (m : Names) (n : ℕ) (l : List ℕ) (h : ℕ) : Names → CatalogueRun → Type 0 where
+  closes : {m' : Names} {k : ℕ} → ReadsLast m n l h m' (Ok k) → Closes m n l h m' Ready
+  refuses : {m' : Names} {f : Refusal} → ReadsLast m n l h m' (Err f) → Closes m n l h m' (Refused f)
 
 -- by what a read came to; what is read no further stays as it is
-pub data GoesOn (b : List ℕ) (m : Memory) (l : List ℕ) : CatalogueRun → Event → Memory → List ℕ → CatalogueRun → Type 0 where
-  some : {n h from k : ℕ} {m' : Memory} {l' : List ℕ} {r : CatalogueRun} → Advances b from k m n l h m' l' r → GoesOn b m l (Reading n h) (Event'.Block from k) m' l' r
-  no_more : {n h : ℕ} {m' : Memory} {r : CatalogueRun} → Closes m n l h m' r → GoesOn b m l (Reading n h) Event'.InputEnds m' l r
+pub data GoesOn (b : List ℕ) (m : Names) (l : List ℕ) : CatalogueRun → Event → Names → List ℕ → CatalogueRun → Type 0 where
+  some : {n h from k : ℕ} {m' : Names} {l' : List ℕ} {r : CatalogueRun} → Advances b from k m n l h m' l' r → GoesOn b m l (Reading n h) (Event'.Block from k) m' l' r
+  no_more : {n h : ℕ} {m' : Names} {r : CatalogueRun} → Closes m n l h m' r → GoesOn b m l (Reading n h) Event'.InputEnds m' l r
   failed : {n h : ℕ} → GoesOn b m l (Reading n h) Event'.Unread m l Unread
   unwritten : {n h : ℕ} → GoesOn b m l (Reading n h) Event'.Unwritten m l (Reading n h)
   finished : {n h : ℕ} → GoesOn b m l (Reading n h) Event'.Finished m l (Reading n h)

@@ -7,7 +7,7 @@ use Rattle.std.proofs.Math.Nat.{min-eq_left}
 use Rattle.refusals.specs.declared.Refusal.{Refusal}
 use Rattle.filter.specs.Promise.{block_size, arrived_of}
 use Rattle.textlines.specs.Lines.{longest_read, joined}
-use Rattle.nametable.specs.Promise.{Memory}
+use Rattle.nametable.specs.declared.Names.{Names}
 use Rattle.nametable.specs.Houses.{House}
 use Rattle.nametable.specs.Holds.{Holds}
 use Rattle.catalogue.specs.Catalogue.{catalogue, refused_by, Means}
@@ -21,17 +21,17 @@ use Rattle.cataloguerun.specs.Laws.{reads_in}
 
 -- Turn after turn, where n lines and h bytes of an unfinished one are held: a read into the block b, and the next call. A read of no bytes tells that
 -- the file has ended. Once a line is refused, the rest of the file is not read.
-pub data Turns : ℕ → ℕ → Memory → List ℕ → List ℕ → CatalogueRun → Memory → Type 0 where
-  reads : {n h x n' h' : ℕ} {m m' m'' : Memory} {l l' b i : List ℕ} {r : CatalogueRun} (c : List ℕ) → length (x ∷ c) ≤ block_size → take (length (x ∷ c)) b ≡ x ∷ c
+pub data Turns : ℕ → ℕ → Names → List ℕ → List ℕ → CatalogueRun → Names → Type 0 where
+  reads : {n h x n' h' : ℕ} {m m' m'' : Names} {l l' b i : List ℕ} {r : CatalogueRun} (c : List ℕ) → length (x ∷ c) ≤ block_size → take (length (x ∷ c)) b ≡ x ∷ c
       → GoesOn b m l (Reading n h) (arrived_of (pos (length (x ∷ c)))) m' l' (Reading n' h') → Turns n' h' m' l' i r m'' → Turns n h m l ((x ∷ c) ++ i) r m''
-  stops : {n h x : ℕ} {m m' : Memory} {l l' b : List ℕ} {f : Refusal} (c i : List ℕ) → length (x ∷ c) ≤ block_size → take (length (x ∷ c)) b ≡ x ∷ c
+  stops : {n h x : ℕ} {m m' : Names} {l l' b : List ℕ} {f : Refusal} (c i : List ℕ) → length (x ∷ c) ≤ block_size → take (length (x ∷ c)) b ≡ x ∷ c
       → GoesOn b m l (Reading n h) (arrived_of (pos (length (x ∷ c)))) m' l' (Refused f) → Turns n h m l ((x ∷ c) ++ i) (Refused f) m'
-  ends : {n h : ℕ} {m m' : Memory} {l l' b : List ℕ} {r : CatalogueRun} → GoesOn b m l (Reading n h) (arrived_of (pos 0)) m' l' r → Turns n h m l [] r m'
+  ends : {n h : ℕ} {m m' : Names} {l l' b : List ℕ} {r : CatalogueRun} → GoesOn b m l (Reading n h) (arrived_of (pos 0)) m' l' r → Turns n h m l [] r m'
 
 -- what it comes to: the memory holds the calendars of the file, or the run is refused as the file is
-pub data ComesTo (house : List ℕ) : CatalogueRun → Memory → Type 0 where
-  ready : {hs : List House} {m : Memory} → Means house (catalogue hs) → Holds m hs → ComesTo house Ready m
-  refused : {f : Refusal} {m : Memory} → Means house (refused_by f) → ComesTo house (Refused f) m
+pub data ComesTo (house : List ℕ) : CatalogueRun → Names → Type 0 where
+  ready : {hs : List House} {m : Names} → Means house (catalogue hs) → Holds m hs → ComesTo house Ready m
+  refused : {f : Refusal} {m : Names} → Means house (refused_by f) → ComesTo house (Refused f) m
 
 -- ---- the turns are calls of `read_block`, and then of `read_last`
 
@@ -39,7 +39,7 @@ data EndsAs : Result ℕ Refusal → CatalogueRun → Type 0 where
   as_ready : {n : ℕ} → EndsAs (Ok n) Ready
   as_refused : {f : Refusal} → EndsAs (Err f) (Refused f)
 
-record Made (n h : ℕ) (m : Memory) (l i : List ℕ) (r : CatalogueRun) (m' : Memory) : Type 0 where
+record Made (n h : ℕ) (m : Names) (l i : List ℕ) (r : CatalogueRun) (m' : Names) : Type 0 where
   parts : List (List ℕ)
   answer : Result ℕ Refusal
   calls : Calls m n l h parts m' answer
@@ -50,7 +50,7 @@ record Made (n h : ℕ) (m : Memory) (l i : List ℕ) (r : CatalogueRun) (m' : M
 came : (b d : List ℕ) {s : ReadState} {e : Reached} → length d ≤ block_size → take (length d) b ≡ d → ReadsBlock (take (min (length d) block_size) b) s e → ReadsBlock d s e
 came b d k e w = reads_in (ap (λ (j : ℕ). take j b) (min-eq_left k) ∙ e) w
 
-made : {n h : ℕ} {m : Memory} {l i : List ℕ} {r : CatalogueRun} {m' : Memory} → Turns n h m l i r m' → Made n h m l i r m'
+made : {n h : ℕ} {m : Names} {l i : List ℕ} {r : CatalogueRun} {m' : Names} → Turns n h m l i r m' → Made n h m l i r m'
 made (Turns.reads {x = x} {b = b} c k e (GoesOn.some (Advances.reads w)) v) =
     let g = made v in
     record { parts = (x ∷ c) ∷ g.parts; answer = g.answer; calls = Calls.reads (came b (x ∷ c) k e w) g.calls; all = ap (λ (y : List ℕ). (x ∷ c) ++ y) g.all; ends_as = g.ends_as }
@@ -63,11 +63,11 @@ made (Turns.ends (GoesOn.over h)) = absurd (true≢false h)
 
 -- ---- the theorem
 
-comes_to : {house : List ℕ} {a : Result ℕ Refusal} {r : CatalogueRun} {m : Memory} → Read house m a → EndsAs a r → ComesTo house r m
+comes_to : {house : List ℕ} {a : Result ℕ Refusal} {r : CatalogueRun} {m : Names} → Read house m a → EndsAs a r → ComesTo house r m
 comes_to (is_catalogue p g e) as_ready = ready p g
 comes_to (is_refused p) as_refused = refused p
 
-pub run_reads : {m m' : Memory} {l house : List ℕ} {r : CatalogueRun} → length l ≡ longest_read → Holds m [] → Turns 0 0 m l house r m' → ComesTo house r m'
+pub run_reads : {m m' : Names} {l house : List ℕ} {r : CatalogueRun} → length l ≡ longest_read → Holds m [] → Turns 0 0 m l house r m' → ComesTo house r m'
 run_reads {m' = m'} k g w =
     let d = made w in
     comes_to (subst (λ (x : List ℕ). Read x m' d.answer) d.all (calls_catalogue k g d.calls)) d.ends_as

@@ -6,13 +6,12 @@
 
 ghost use Rattle.std.specs.Prelude.{◌≡◌, false, ◌+◌, ◌≤◌, length};
 ghost use Rattle.filter.specs.Promise.{arrived_of, block_size};
-ghost use Rattle.nametable.specs.Promise.{memory};
 ghost use Rattle.writer.specs.Laws.{PutText};
 ghost use Rattle.writer.specs.Promise.{Signs};
 ghost use Rattle.linetext.specs.Laws.{Text};
 ghost use Rattle.cataloguerun.specs.Promise.{start_of, reads_on_value, Advances, Closes, GoesOn, words_of, Reasons, Complains};
 
-use catalogue::{Links, Names};
+use catalogue::Names;
 pub use catalogueread::LONGEST_READ;
 use catalogueread::Progress;
 use filter::{BLOCK_SIZE, Event, Phase, State};
@@ -63,10 +62,9 @@ pub fn go_on(
     got: isize,
     block: &[u8; BLOCK_SIZE],
     names: &mut Names,
-    links: &mut Links,
     line: &mut [u8; LONGEST_READ],
 ) -> CatalogueRun
-    ensures { GoesOn block.now (memory names.old links.old) line.old run (arrived_of got) (memory names.new links.new) line.new result }
+    ensures { GoesOn block.now names.old line.old run (arrived_of got) names.new line.new result }
 {
     match run {
         CatalogueRun::Reading(lines, held) => match filter::arrived(got, block) {
@@ -76,9 +74,9 @@ pub fn go_on(
                     lines,
                     held,
                 };
-                advance(block, count, names, links, line, p)
+                advance(block, count, names, line, p)
             }
-            Event::InputEnds => close(names, links, line, lines, held),
+            Event::InputEnds => close(names, line, lines, held),
             Event::Unread => CatalogueRun::Unread,
             Event::Unwritten => CatalogueRun::Reading(lines, held),
             Event::Finished => CatalogueRun::Reading(lines, held),
@@ -93,13 +91,12 @@ fn advance(
     block: &[u8; BLOCK_SIZE],
     count: usize,
     names: &mut Names,
-    links: &mut Links,
     line: &mut [u8; LONGEST_READ],
     from: Progress,
 ) -> CatalogueRun
-    ensures { Advances block.now from.at count (memory names.old links.old) from.lines line.old from.held (memory names.new links.new) line.new result }
+    ensures { Advances block.now from.at count names.old from.lines line.old from.held names.new line.new result }
 {
-    match catalogueread::read_block(names, links, line, filter::front(block, count), from) {
+    match catalogueread::read_block(names, line, filter::front(block, count), from) {
         Ok(p) => CatalogueRun::Reading(p.lines, p.held),
         Err(why) => CatalogueRun::Refused(why),
     }
@@ -108,14 +105,13 @@ fn advance(
 // The last line, where it had no newline.
 fn close(
     names: &mut Names,
-    links: &mut Links,
     line: &[u8; LONGEST_READ],
     lines: usize,
     held: usize,
 ) -> CatalogueRun
-    ensures { Closes (memory names.old links.old) lines line.now held (memory names.new links.new) result }
+    ensures { Closes names.old lines line.now held names.new result }
 {
-    match catalogueread::read_last(names, links, line, lines, held) {
+    match catalogueread::read_last(names, line, lines, held) {
         Ok(_) => CatalogueRun::Ready,
         Err(why) => CatalogueRun::Refused(why),
     }

@@ -5,14 +5,13 @@
 #![tactic(auto)]
 
 ghost use Rattle.std.specs.Prelude.{◌≤◌, length, take, drop};
-ghost use Rattle.nametable.specs.Promise.{memory};
 ghost use Rattle.catalogue.specs.Promise.{NamesIn};
 ghost use Rattle.dateparse.specs.Promise.{ParseDate};
 ghost use Rattle.entry.specs.Promise.{LineAnswer, IsParted};
 ghost use Rattle.entry.specs.Laws.{TextFrom};
 
 use calendar::Calendar;
-use catalogue::{Links, Names};
+use catalogue::Names;
 use refusals::Refusal;
 
 // The longest line of a register is the longest line that is read.
@@ -47,11 +46,11 @@ pub fn parts_of(line: &[u8]) -> Parts
 }
 
 // Each part of the line is lent in a function of its own, so that no function has both.
-fn named_before(names: &Names, links: &Links, line: &[u8], tab: usize) -> Result<Calendar, Refusal>
+fn named_before(names: &Names, line: &[u8], tab: usize) -> Result<Calendar, Refusal>
     requires { tab ≤ length line.now }
-    ensures { NamesIn (memory names.now links.now) (take tab line.now) result }
+    ensures { NamesIn names.now (take tab line.now) result }
 {
-    catalogue::named(names, links, &line[..tab])
+    catalogue::named(names, &line[..tab])
 }
 
 fn parsed_from(calendar: Calendar, line: &[u8], from: usize) -> Result<Date, Refusal>
@@ -63,14 +62,14 @@ fn parsed_from(calendar: Calendar, line: &[u8], from: usize) -> Result<Date, Ref
 
 // The day that a line names, or why it names none.
 #[tactic(auto, using(crate::specs::Laws::too_long))]
-pub fn line_answer(names: &Names, links: &Links, line: &[u8]) -> Result<Date, Refusal>
-    ensures { LineAnswer (NamesIn (memory names.now links.now)) line.now result }
+pub fn line_answer(names: &Names, line: &[u8]) -> Result<Date, Refusal>
+    ensures { LineAnswer (NamesIn names.now) line.now result }
 {
     if LONGEST_ENTRY < line.len() {
         return Err(calendar::refusal_of(20, 0));
     }
     let tab = bytesearch::by_eights(line, 0, b'\t');
-    match named_before(names, links, line, tab) {
+    match named_before(names, line, tab) {
         Err(why) => Err(why),
         Ok(calendar) => parsed_from(calendar, line, text_from(line.len(), tab)),
     }

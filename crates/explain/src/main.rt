@@ -5,7 +5,7 @@
 
 ghost use Rattle.std.specs.Prelude.{◌≤◌, length};
 
-use catalogue::{LINK_COUNT, Links, NAME_BYTES, Names};
+use catalogue::Names;
 use explainrun::LONGEST_READ;
 use filter::{BLOCK_SIZE, State};
 
@@ -18,7 +18,6 @@ fn read_some(rt: &HostRuntime, block: &mut [u8], room: usize) -> isize
 fn turn(
     rt: &HostRuntime,
     names: &Names,
-    links: &Links,
     state: State,
     block: &mut [u8; BLOCK_SIZE],
     line: &mut [u8; LONGEST_READ],
@@ -26,24 +25,23 @@ fn turn(
 ) -> State {
     let written = streams::write(rt, filter::output(state), filter::front(out, state.used));
     let got = read_some(rt, block, filter::room(state, written));
-    explainrun::go_on(names, links, state, written, got, block, line, out)
+    explainrun::go_on(names, state, written, got, block, line, out)
 }
 
 fn main(rt: HostRuntime) {
-    let mut names = [0u8; NAME_BYTES];
-    let mut links = [0u32; LINK_COUNT];
+    let mut names = Names::new();
     let mut block = [0u8; BLOCK_SIZE];
     let mut line = [0u8; LONGEST_READ];
     let mut out = [0u8; BLOCK_SIZE];
     let catalogue = cataloguefile::read(
-        &rt, &mut names, &mut links, &mut block, &mut line, &mut out,
+        &rt, &mut names, &mut block, &mut line, &mut out,
     );
     let mut state = explainrun::start(catalogue);
     // The number of turns only bounds the loop: no input is so long.
     let mut turns = u64::MAX;
     while 0 < turns {
         if filter::goes_on(state) {
-            state = turn(&rt, &names, &links, state, &mut block, &mut line, &mut out);
+            state = turn(&rt, &names, state, &mut block, &mut line, &mut out);
         } else {
             return;
         }

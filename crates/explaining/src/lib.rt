@@ -11,7 +11,6 @@ mod sentences;
 ghost use Rattle.std.specs.Prelude.{◌≤◌, length, take, drop};
 ghost use Rattle.writer.specs.Promise.{Puts, Writes};
 ghost use Rattle.linetext.specs.Laws.{Text};
-ghost use Rattle.nametable.specs.Promise.{memory};
 ghost use Rattle.catalogue.specs.Promise.{NamesIn};
 ghost use Rattle.reasons.specs.Promise.{Explains};
 ghost use Rattle.explaining.specs.Wording.{Says, long_line};
@@ -21,7 +20,7 @@ ghost use Rattle.explaining.specs.Laws.{Is};
 ghost use Rattle.explaining.specs.LineLaws.{Fits};
 
 use calendar::Calendar;
-use catalogue::{Links, Names};
+use catalogue::Names;
 pub use entry::LONGEST_ENTRY;
 use reasons::Reason;
 pub use sentences::LONGEST_PARAGRAPH;
@@ -29,11 +28,11 @@ use writer::buffer;
 use refusals::Refusal;
 
 // The paragraph of its answer, from `at` on.
-pub fn explain_line(names: &Names, links: &Links, line: &[u8], out: &mut [u8], at: usize) -> Result<usize, Refusal>
-    ensures { Writes (Paragraph (NamesIn (memory names.now links.now)) line.now) out.old at out.new result }
+pub fn explain_line(names: &Names, line: &[u8], out: &mut [u8], at: usize) -> Result<usize, Refusal>
+    ensures { Writes (Paragraph (NamesIn names.now) line.now) out.old at out.new result }
 {
     let mut apart = [0u8; LONGEST_PARAGRAPH];
-    let size = put_paragraph(names, links, line, &mut apart);
+    let size = put_paragraph(names, line, &mut apart);
     put_front(out, at, &apart, size)
 }
 
@@ -67,17 +66,16 @@ fn put_part(out: &mut [u8], at: usize, apart: &[u8], size: usize) -> Result<usiz
 // At the front of a buffer of its own, so that a buffer too short for it stays as it was.
 fn put_paragraph(
     names: &Names,
-    links: &Links,
     line: &[u8],
     apart: &mut [u8; LONGEST_PARAGRAPH],
 ) -> usize
-    ensures { Text (Paragraph (NamesIn (memory names.now links.now)) line.now) longest_paragraph apart.old 0 apart.new result }
+    ensures { Text (Paragraph (NamesIn names.now) line.now) longest_paragraph apart.old 0 apart.new result }
 {
     if LONGEST_ENTRY < line.len() {
         return sentences::put_long(apart, 0);
     }
     let parts = entry::parts_of(line);
-    match named_before(names, links, line, parts.name_end) {
+    match named_before(names, line, parts.name_end) {
         Err(why) => put_unnamed(
             apart,
             line,
@@ -93,11 +91,11 @@ fn put_paragraph(
 }
 
 // Each part of the line is lent in a function of its own, so that no function has both.
-fn named_before(names: &Names, links: &Links, line: &[u8], end: usize) -> Result<Calendar, Refusal>
+fn named_before(names: &Names, line: &[u8], end: usize) -> Result<Calendar, Refusal>
     requires { end ≤ length line.now }
-    ensures { NamesIn (memory names.now links.now) (take end line.now) result }
+    ensures { NamesIn names.now (take end line.now) result }
 {
-    catalogue::named(names, links, &line[..end])
+    catalogue::named(names, &line[..end])
 }
 
 fn explained_from(calendar: Calendar, line: &[u8], from: usize) -> Reason

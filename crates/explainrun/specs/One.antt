@@ -3,7 +3,7 @@ use Rattle.std.specs.Prelude.{ℕ, ◌≡◌, refl, List}
 use Rattle.std.proofs.Common.{subst}
 use Rattle.bytesearch.specs.One.{never}
 use Rattle.nametable.specs.Houses.{House}
-use Rattle.nametable.specs.Promise.{Memory}
+use Rattle.nametable.specs.declared.Names.{Names}
 use Rattle.filter.specs.declared.Event.{Event}
 use Rattle.filter.specs.declared.State.{State}
 use Rattle.catalogue.specs.Catalogue.{catalogue, refused_by, NamesWith}
@@ -16,7 +16,7 @@ use Rattle.linerun.specs.One as L
 use Rattle.explainrun.specs.Promise.{GoesOn}
 use Rattle.explainrun.specs.Explanation.{Explanation, explanation, refused}
 
-pub goes_on_one : {i : Memory} {b l o : List ℕ} {s : State} {v : Event} {k m p q : List ℕ} {r t : State} → GoesOn i b l o s v k p r → GoesOn i b l o s v m q t → (k ≡ m) × (p ≡ q) × (r ≡ t)
+pub goes_on_one : {i : Names} {b l o : List ℕ} {s : State} {v : Event} {k m p q : List ℕ} {r t : State} → GoesOn i b l o s v k p r → GoesOn i b l o s v m q t → (k ≡ m) × (p ≡ q) × (r ≡ t)
 goes_on_one {i} = L.goes_on_one (paragraph_one (names_in_one i))
 
 pub explanation_one : {house input t u : List ℕ} → Explanation house input t → Explanation house input u → t ≡ u

@@ -5,7 +5,7 @@ use Rattle.filter.specs.declared.Phase.TheVariants.{Reading, Ended}
 use Rattle.filter.specs.declared.Event.{Event}
 use Rattle.filter.specs.declared.State.{State}
 use Rattle.filter.specs.Promise.{state_with_value}
-use Rattle.nametable.specs.Promise.{Memory}
+use Rattle.nametable.specs.declared.Names.{Names}
 use Rattle.catalogue.specs.Promise.{NamesIn}
 use Rattle.cataloguerun.specs.declared.CatalogueRun.{CatalogueRun}
 use Rattle.cataloguerun.specs.declared.CatalogueRun.TheVariants as Run'
@@ -26,5 +26,5 @@ unfoldable pub unwritten : List ℕ
 unwritten = bytes "explain: standard output could not be written; the explanation is not complete\n"
 
 -- A turn with the catalogue in the memory m, the block b, the line buffer l and the output o: a line a turn, answered with its paragraph.
-abbrev pub GoesOn : Memory → List ℕ → List ℕ → List ℕ → State → Event → List ℕ → List ℕ → State → Type 0
+abbrev pub GoesOn : Names → List ℕ → List ℕ → List ℕ → State → Event → List ℕ → List ℕ → State → Type 0
 GoesOn m = L.GoesOn (Paragraph (NamesIn m)) unread unwritten

@@ -2,7 +2,7 @@
 -- the explanation of its catalogue and its input, whatever parts these come in (`run_explains`); so two runs on them write the same (`any_run`).
 use Rattle.std.specs.Prelude.{ℕ, ◌≡◌, List, length, Result}
 use Rattle.std.proofs.Common.{sym, true≢false}
-use Rattle.nametable.specs.Promise.{Memory}
+use Rattle.nametable.specs.declared.Names.{Names}
 use Rattle.filter.specs.declared.State.{State}
 use Rattle.textlines.specs.Lines.{longest_read}
 use Rattle.entry.specs.Promise.{Naming}
@@ -44,15 +44,15 @@ module _ {N M : Naming} (also : (s : List ℕ) (a : Result Calendar Refusal) →
 -- ---- the theorems
 
 -- turn after turn, with the catalogue in the memory m
-abbrev pub Run : Memory → State → List ℕ → List ℕ → List ℕ → List ℕ → List ℕ → Type 0
+abbrev pub Run : Names → State → List ℕ → List ℕ → List ℕ → List ℕ → List ℕ → Type 0
 Run m = Turns (Paragraph (NamesIn m)) unread unwritten
 
-pub run_explains : {house : List ℕ} {run : CatalogueRun} {m : Memory} {b l o i t : List ℕ} → length l ≡ longest_read → ComesTo house run m → Run m (start_of run) b l o i t → Explanation house i t
+pub run_explains : {house : List ℕ} {run : CatalogueRun} {m : Names} {b l o i t : List ℕ} → length l ≡ longest_read → ComesTo house run m → Run m (start_of run) b l o i t → Explanation house i t
 run_explains k (ready p g) w = E.explanation p (lines_also (λ s a n. named_with p g n) (run_answers k w))
 run_explains k (refused p) (Turns.over e) = E.refused p
 run_explains k (refused p) (Turns.turn e d r g w) = absurd (true≢false (sym e))
 
 -- so two runs on one catalogue and one input write the same
-pub any_run : {house : List ℕ} {run fun : CatalogueRun} {m n : Memory} {a b l k o p i t u : List ℕ} → length l ≡ longest_read → length k ≡ longest_read
+pub any_run : {house : List ℕ} {run fun : CatalogueRun} {m n : Names} {a b l k o p i t u : List ℕ} → length l ≡ longest_read → length k ≡ longest_read
     → ComesTo house run m → ComesTo house fun n → Run m (start_of run) a l o i t → Run n (start_of fun) b k p i u → t ≡ u
 any_run j h c d v w = explanation_one (run_explains j c v) (run_explains h d w)

@@ -6,7 +6,6 @@
 
 ghost use Rattle.filter.specs.Promise.{event_of};
 ghost use Rattle.writer.specs.Promise.{Writes};
-ghost use Rattle.nametable.specs.Promise.{memory};
 ghost use Rattle.catalogue.specs.Promise.{NamesIn};
 ghost use Rattle.explaining.specs.Paragraph.{Paragraph};
 ghost use Rattle.linerun.specs.declared.Turn.TheVariants.{Line as EndedLine};
@@ -14,7 +13,7 @@ ghost use Rattle.linerun.specs.Promise.{HeldOut, Answers};
 ghost use Rattle.std.specs.Prelude.{◌≤◌, length, take, ◌≡◌};
 ghost use Rattle.explainrun.specs.Promise.{start_of, unread, unwritten, GoesOn};
 
-use catalogue::{Links, Names};
+use catalogue::Names;
 use cataloguerun::CatalogueRun;
 use filter::{BLOCK_SIZE, Phase, State};
 pub use linerun::LONGEST_READ;
@@ -42,7 +41,6 @@ pub fn start(run: CatalogueRun) -> State
 // The next turn, once the output was written or not, and a read has answered.
 pub fn go_on(
     names: &Names,
-    links: &Links,
     state: State,
     written: bool,
     got: isize,
@@ -50,10 +48,10 @@ pub fn go_on(
     line: &mut [u8; LONGEST_READ],
     out: &mut [u8; BLOCK_SIZE],
 ) -> State
-    ensures { GoesOn (memory names.now links.now) block.now line.old out.old state (event_of state written got) line.new out.new result }
+    ensures { GoesOn names.now block.now line.old out.old state (event_of state written got) line.new out.new result }
 {
     match linerun::next(state, written, got, block, line) {
-        Turn::Line(held, after) => answer(names, links, line, held, after, out),
+        Turn::Line(held, after) => answer(names, line, held, after, out),
         Turn::Nothing(after) => after,
         Turn::Unread => filter::say(&UNREAD, out),
         Turn::Unwritten => filter::say(&UNWRITTEN, out),
@@ -63,15 +61,14 @@ pub fn go_on(
 // The paragraph for the line that has ended, at the front of the output.
 fn answer(
     names: &Names,
-    links: &Links,
     line: &[u8; LONGEST_READ],
     held: usize,
     after: State,
     out: &mut [u8; BLOCK_SIZE],
 ) -> State
-    ensures { Answers (Paragraph (NamesIn (memory names.now links.now))) unread unwritten line.now out.old (EndedLine held after) out.new result }
+    ensures { Answers (Paragraph (NamesIn names.now)) unread unwritten line.now out.old (EndedLine held after) out.new result }
 {
-    match put_held(names, links, line, held, out) {
+    match put_held(names, line, held, out) {
         Ok(used) => linerun::with_output(after, used),
         Err(_) => after,
     }
@@ -79,23 +76,22 @@ fn answer(
 
 fn put_held(
     names: &Names,
-    links: &Links,
     line: &[u8; LONGEST_READ],
     held: usize,
     out: &mut [u8],
 ) -> Result<usize, Refusal>
-    ensures { Writes (HeldOut (Paragraph (NamesIn (memory names.now links.now))) line.now held) out.old 0 out.new result }
+    ensures { Writes (HeldOut (Paragraph (NamesIn names.now)) line.now held) out.old 0 out.new result }
 {
     let short = held <= LONGEST_READ;
     if short {
-        return put_front(names, links, line, held, out);
+        return put_front(names, line, held, out);
     }
     explaining::explain_too_long(out, 0)
 }
 
-fn put_front(names: &Names, links: &Links, line: &[u8], held: usize, out: &mut [u8]) -> Result<usize, Refusal>
+fn put_front(names: &Names, line: &[u8], held: usize, out: &mut [u8]) -> Result<usize, Refusal>
     requires { held ≤ length line.now }
-    ensures { Writes (Paragraph (NamesIn (memory names.now links.now)) (take held line.now)) out.old 0 out.new result }
+    ensures { Writes (Paragraph (NamesIn names.now) (take held line.now)) out.old 0 out.new result }
 {
-    explaining::explain_line(names, links, &line[..held], out, 0)
+    explaining::explain_line(names, &line[..held], out, 0)
 }

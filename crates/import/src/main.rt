@@ -5,7 +5,7 @@
 
 ghost use Rattle.std.specs.Prelude.{◌+◌, ◌≤◌, length};
 
-use catalogue::{LINK_COUNT, Links, NAME_BYTES, Names};
+use catalogue::Names;
 use filter::BLOCK_SIZE;
 use importrun::{ImportRun, LONGEST_RECORD};
 
@@ -18,7 +18,6 @@ fn read_after(rt: &HostRuntime, block: &mut [u8], kept: usize, room: usize) -> i
 fn turn(
     rt: &HostRuntime,
     names: &Names,
-    links: &Links,
     run: ImportRun,
     block: &mut [u8; BLOCK_SIZE],
     line: &mut [u8; LONGEST_RECORD],
@@ -32,17 +31,16 @@ fn turn(
         importrun::kept(run),
         importrun::room(run, written),
     );
-    importrun::go_on(names, links, run, written, got, block, line, out)
+    importrun::go_on(names, run, written, got, block, line, out)
 }
 
 fn main(rt: HostRuntime) {
-    let mut names = [0u8; NAME_BYTES];
-    let mut links = [0u32; LINK_COUNT];
+    let mut names = Names::new();
     let mut block = [0u8; BLOCK_SIZE];
     let mut line = [0u8; LONGEST_RECORD];
     let mut out = [0u8; BLOCK_SIZE];
     let catalogue = cataloguefile::read(
-        &rt, &mut names, &mut links, &mut block, &mut line, &mut out,
+        &rt, &mut names, &mut block, &mut line, &mut out,
     );
     let mut run = importrun::start(catalogue, &mut out);
     // The number of turns only bounds the loop: no input is so long.
@@ -50,7 +48,7 @@ fn main(rt: HostRuntime) {
     while 0 < turns {
         let state = run.state;
         if filter::goes_on(state) {
-            run = turn(&rt, &names, &links, run, &mut block, &mut line, &mut out);
+            run = turn(&rt, &names, run, &mut block, &mut line, &mut out);
         } else {
             return;
         }

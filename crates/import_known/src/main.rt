@@ -7,7 +7,7 @@
 
 ghost use Rattle.std.specs.Prelude.{◌<◌, ◌≤◌, length};
 
-use catalogue::{LINK_COUNT, Links, NAME_BYTES, Names};
+use catalogue::Names;
 use filter::BLOCK_SIZE;
 use importing::{LONGEST_RECORD, Progress, Stopped};
 
@@ -26,13 +26,12 @@ fn put_header(out: &mut [u8; BLOCK_SIZE]) -> usize {
 // A text whole: how many bytes its import has.
 fn import_whole(
     names: &Names,
-    links: &Links,
     text: &[u8],
     line: &mut [u8; LONGEST_RECORD],
     out: &mut [u8; BLOCK_SIZE],
 ) -> usize {
     let used = put_header(out);
-    let reached = importing::import_text(names, links, text, 0, true, 0, line, out, used);
+    let reached = importing::import_text(names, text, 0, true, 0, line, out, used);
     reached.used
 }
 
@@ -47,7 +46,6 @@ fn rest<'a>(text: &'a [u8], at: usize) -> &'a [u8] {
 // After the first of two parts: what it left comes again, in front of the second. Where a refusal has ended the import, nothing comes.
 fn import_rest(
     names: &Names,
-    links: &Links,
     text: &[u8],
     reached: Progress,
     line: &mut [u8; LONGEST_RECORD],
@@ -59,14 +57,13 @@ fn import_rest(
     }
     let left = rest(text, reached.at);
     let offset = importing::later_place(0, reached.at);
-    let last = importing::import_text(names, links, left, 0, true, offset, line, out, reached.used);
+    let last = importing::import_text(names, left, 0, true, offset, line, out, reached.used);
     last.used
 }
 
 // A text in two parts, the first of `cut` bytes: how many bytes its import has.
 fn import_cut(
     names: &Names,
-    links: &Links,
     text: &[u8],
     cut: usize,
     line: &mut [u8; LONGEST_RECORD],
@@ -74,8 +71,8 @@ fn import_cut(
 ) -> usize {
     let used = put_header(out);
     let first = filter::front(text, cut);
-    let reached = importing::import_text(names, links, first, 0, false, 0, line, out, used);
-    import_rest(names, links, text, reached, line, out)
+    let reached = importing::import_text(names, first, 0, false, 0, line, out, used);
+    import_rest(names, text, reached, line, out)
 }
 
 // ---- The hash FNV-1a of 64 bits
@@ -148,7 +145,6 @@ fn put_string(number: usize, size: usize, text: &mut [u8; LONGEST])
 
 fn hash_string(
     names: &Names,
-    links: &Links,
     number: usize,
     size: usize,
     before: u64,
@@ -159,13 +155,12 @@ fn hash_string(
     requires { size ≤ 7 }
 {
     put_string(number, size, text);
-    let used = import_whole(names, links, filter::front(text, size), line, out);
+    let used = import_whole(names, filter::front(text, size), line, out);
     hash_bytes(filter::front(out, used), before)
 }
 
 fn hash_strings(
     names: &Names,
-    links: &Links,
     size: usize,
     line: &mut [u8; LONGEST_RECORD],
     out: &mut [u8; BLOCK_SIZE],
@@ -177,7 +172,7 @@ fn hash_strings(
     let mut hash = EMPTY_HASH;
     let mut number: usize = 0;
     while number < count {
-        hash = hash_string(names, links, number, size, hash, &mut text, line, out);
+        hash = hash_string(names, number, size, hash, &mut text, line, out);
         number += 1;
     }
     hash
@@ -195,13 +190,12 @@ fn write_counts(rt: &HostRuntime, size: usize, hash: u64) {
 fn answer_strings(
     rt: &HostRuntime,
     names: &Names,
-    links: &Links,
     line: &mut [u8; LONGEST_RECORD],
     out: &mut [u8; BLOCK_SIZE],
 ) {
     let mut size: usize = 0;
     while size <= LONGEST {
-        let hash = hash_strings(names, links, size, line, out);
+        let hash = hash_strings(names, size, line, out);
         write_counts(rt, size, hash);
         size += 1;
     }
@@ -211,21 +205,19 @@ fn answer_strings(
 
 fn is_same(
     names: &Names,
-    links: &Links,
     text: &[u8],
     cut: usize,
     line: &mut [u8; LONGEST_RECORD],
     out: &mut [u8; BLOCK_SIZE],
     expected: &[u8],
 ) -> bool {
-    let used = import_cut(names, links, text, cut, line, out);
+    let used = import_cut(names, text, cut, line, out);
     filter::front(out, used) == expected
 }
 
 // How many of the ways to cut a text come to the same. The last way cuts it after its last byte.
 fn same_ways(
     names: &Names,
-    links: &Links,
     text: &[u8],
     line: &mut [u8; LONGEST_RECORD],
     out: &mut [u8; BLOCK_SIZE],
@@ -234,12 +226,12 @@ fn same_ways(
     let mut same: u64 = 0;
     let mut cut: usize = 0;
     while cut < text.len() {
-        if is_same(names, links, text, cut, line, out, expected) {
+        if is_same(names, text, cut, line, out, expected) {
             same = std::num::wrapping_add_u64(same, 1);
         }
         cut += 1;
     }
-    if is_same(names, links, text, text.len(), line, out, expected) {
+    if is_same(names, text, text.len(), line, out, expected) {
         return std::num::wrapping_add_u64(same, 1);
     }
     same
@@ -248,17 +240,16 @@ fn same_ways(
 fn answer_text(
     rt: &HostRuntime,
     names: &Names,
-    links: &Links,
     text: &[u8],
     line: &mut [u8; LONGEST_RECORD],
     out: &mut [u8; BLOCK_SIZE],
     other: &mut [u8; BLOCK_SIZE],
 ) {
-    let used = import_whole(names, links, text, line, out);
+    let used = import_whole(names, text, line, out);
     let expected = filter::front(out, used);
     streams::print(rt, expected);
     streams::print(rt, b"= ");
-    streams::print_decimal(rt, same_ways(names, links, text, line, other, expected));
+    streams::print_decimal(rt, same_ways(names, text, line, other, expected));
     streams::print(rt, b"\n");
 }
 
@@ -309,7 +300,6 @@ fn piece_at(input: &[u8], at: usize) -> Piece
 fn answer_texts(
     rt: &HostRuntime,
     names: &Names,
-    links: &Links,
     input: &[u8],
     line: &mut [u8; LONGEST_RECORD],
     out: &mut [u8; BLOCK_SIZE],
@@ -320,7 +310,7 @@ fn answer_texts(
         let piece = piece_at(input, at);
         let from = piece.from;
         let to = piece.to;
-        answer_text(rt, names, links, &input[from..to], line, out, other);
+        answer_text(rt, names, &input[from..to], line, out, other);
         at = piece.next;
     }
 }
@@ -330,14 +320,12 @@ fn main(rt: HostRuntime) {
     let mut out = [0u8; BLOCK_SIZE];
     let mut other = [0u8; BLOCK_SIZE];
     let mut line = [0u8; LONGEST_RECORD];
-    let names = [0u8; NAME_BYTES];
-    let links = [0u32; LINK_COUNT];
+    let names = Names::new();
     let size = streams::read_full(&mut rt.stdin(), &mut input);
-    answer_strings(&rt, &names, &links, &mut line, &mut out);
+    answer_strings(&rt, &names, &mut line, &mut out);
     answer_texts(
         &rt,
         &names,
-        &links,
         &input[..size],
         &mut line,
         &mut out,

@@ -7,7 +7,6 @@
 
 ghost use Rattle.std.specs.Prelude.{◌≡◌, ◌+◌, ◌≤◌, ◌<◌, length, pos};
 ghost use Rattle.refusals.specs.Promise.{refusal};
-ghost use Rattle.nametable.specs.Promise.{memory};
 ghost use Rattle.catalogue.specs.Promise.{NamesIn};
 ghost use Rattle.linetext.specs.Line.{longest_line};
 ghost use Rattle.linetext.specs.Promise.{LineOut};
@@ -15,7 +14,7 @@ ghost use Rattle.listing.specs.Promise.{HeldLine};
 ghost use Rattle.listing.specs.Laws.{Wrote};
 ghost use Rattle.importing.specs.Promise.{place_of, import_state, TakesRecord, Imports, progress_of};
 
-use catalogue::{Links, Names};
+use catalogue::Names;
 pub use commatext::LONGEST_RECORD;
 use commatext::Scan;
 use linetext::LONGEST_LINE;
@@ -37,16 +36,15 @@ pub fn later_place(place: usize, by: usize) -> usize
 // The line of its two fields stands in the line buffer, and is listed as a last line is.
 fn put_entry(
     names: &Names,
-    links: &Links,
     line: &[u8; LONGEST_RECORD],
     size: usize,
     out: &mut [u8],
     used: usize,
 ) -> usize
     requires { (0 < size) × (used + longest_line ≤ length out.old) }
-    ensures { Wrote (HeldLine (NamesIn (memory names.now links.now)) line.now size) out.old used out.new result }
+    ensures { Wrote (HeldLine (NamesIn names.now) line.now size) out.old used out.new result }
 {
-    match listing::list_last(names, links, line, size, out, used) {
+    match listing::list_last(names, line, size, out, used) {
         Ok(next) => next,
         Err(_) => used,
     }
@@ -74,7 +72,6 @@ enum Taken {
 
 fn take_record(
     names: &Names,
-    links: &Links,
     text: &[u8],
     at: usize,
     ends: bool,
@@ -84,11 +81,11 @@ fn take_record(
     used: usize,
 ) -> Taken
     requires { (at < length text.now) × (used + longest_line ≤ length out.old) }
-    ensures { TakesRecord (NamesIn (memory names.now links.now)) ends offset text.now (import_state at line.old out.old used) line.new out.new result }
+    ensures { TakesRecord (NamesIn names.now) ends offset text.now (import_state at line.old out.old used) line.new out.new result }
 {
     match commatext::read_record(&text[at..], ends, line) {
         Scan::Entry(size, next) => {
-            let end = put_entry(names, links, line, size, out, used);
+            let end = put_entry(names, line, size, out, used);
             Taken::Written(at + next, end)
         }
         Scan::Miscounted(next) => {
@@ -131,7 +128,6 @@ pub struct Progress {
 // in the file it begins.
 pub fn import_text(
     names: &Names,
-    links: &Links,
     text: &[u8],
     from: usize,
     ends: bool,
@@ -140,13 +136,13 @@ pub fn import_text(
     out: &mut [u8],
     used: usize,
 ) -> Progress
-    ensures { Imports (NamesIn (memory names.now links.now)) ends offset text.now (import_state from line.old out.old used) (import_state result.at line.new out.new result.used) result.stopped }
+    ensures { Imports (NamesIn names.now) ends offset text.now (import_state from line.old out.old used) (import_state result.at line.new out.new result.used) result.stopped }
 {
     let mut at = from;
     let mut end = used;
     while at < text.len() {
         if buffer::has_room(out.len(), end, LONGEST_LINE) {
-            match take_record(names, links, text, at, ends, offset, line, out, end) {
+            match take_record(names, text, at, ends, offset, line, out, end) {
                 Taken::Written(next, written) => {
                     at = next;
                     end = written;

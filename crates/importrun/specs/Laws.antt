@@ -11,7 +11,7 @@ use Rattle.filter.specs.declared.State.{State}
 use Rattle.filter.specs.Promise.{block_size, room_of, event_of, state_with_value}
 use Rattle.filter.specs.Laws.{room_fits}
 use Rattle.listrun.specs.Promise.{state_at_value}
-use Rattle.nametable.specs.Promise.{Memory}
+use Rattle.nametable.specs.declared.Names.{Names}
 use Rattle.catalogue.specs.Promise.{NamesIn}
 use Rattle.importing.specs.declared.Progress.{Progress}
 use Rattle.importing.specs.declared.Stopped.{Stopped}
@@ -71,11 +71,11 @@ module _ (b : List ℕ) (at end : ℕ) (h : end ≤ length b) (k : at ≤ end) w
 -- ---- a turn
 
 -- what a call came to is told of the front of the block
-as_told : {m : Memory} {f l x l' x' : List ℕ} {from at u o : ℕ} {ends : Bool} {v w : Stopped} (b : List ℕ) (n : ℕ) → f ≡ take n b → v ≡ w → Imports (NamesIn m) ends o f (import_state from l x 0) (import_state at l' x' u) v → Imports (NamesIn m) ends o (take n b) (import_state from l x 0) (import_state at l' x' u) w
+as_told : {m : Names} {f l x l' x' : List ℕ} {from at u o : ℕ} {ends : Bool} {v w : Stopped} (b : List ℕ) (n : ℕ) → f ≡ take n b → v ≡ w → Imports (NamesIn m) ends o f (import_state from l x 0) (import_state at l' x' u) v → Imports (NamesIn m) ends o (take n b) (import_state from l x 0) (import_state at l' x' u) w
 as_told {m} {f} {l} {x} {l'} {x'} {from} {at} {u} {o} {ends} {w = w} b n e d i =
     subst (λ (y : List ℕ). Imports (NamesIn m) ends o y (import_state from l x 0) (import_state at l' x' u) w) e (subst (Imports (NamesIn m) ends o f (import_state from l x 0) (import_state at l' x' u)) d i)
 
-module _ {m : Memory} {b l x : List ℕ} {from n : ℕ} {ends : Bool} {o : ℕ} {f l' x' : List ℕ} {p : Progress} (e : f ≡ take n b) (i : Imports (NamesIn m) ends o f (import_state from l x 0) (import_state p.at l' x' p.used) p.stopped) where
+module _ {m : Names} {b l x : List ℕ} {from n : ℕ} {ends : Bool} {o : ℕ} {f l' x' : List ℕ} {p : Progress} (e : f ≡ take n b) (i : Imports (NamesIn m) ends o f (import_state from l x 0) (import_state p.at l' x' p.used) p.stopped) where
   module _ {s : State} {r : ImportRun} where
     pub turn_ended : p.stopped ≡ Stopped'.Ended → s ≡ state_with_value Closing p.used → r ≡ run_with_value s o → Advances m b l x from n ends o b l' x' r
     turn_ended d g h = subst (Advances m b l x from n ends o b l' x') (sym (h ∙ ap (λ (y : State). run_with_value y o) g)) (Advances.ended (as_told b n e d i))
@@ -91,5 +91,5 @@ module _ {m : Memory} {b l x : List ℕ} {from n : ℕ} {ends : Bool} {o : ℕ} 
     turn_spent {b'} {j} {k} d t y z g v h =
         subst (Advances m b l x from n ends o b' l' x') (sym (h ∙ ap₂ run_with_value g v)) (Advances.spent t (as_told b n e d i) (subst (λ (a : ℕ). Keeps b p.at a b' k) y z))
 
-pub goes : {m : Memory} {b l o b' l' o' : List ℕ} {r r' : ImportRun} {x y : Event} (w : Bool) {g z : ℤ} → g ≡ z → x ≡ event_of r.state w g → x ≡ y → GoesOn m b l o r y b' l' o' r' → GoesOn m b l o r (event_of r.state w z) b' l' o' r'
+pub goes : {m : Names} {b l o b' l' o' : List ℕ} {r r' : ImportRun} {x y : Event} (w : Bool) {g z : ℤ} → g ≡ z → x ≡ event_of r.state w g → x ≡ y → GoesOn m b l o r y b' l' o' r' → GoesOn m b l o r (event_of r.state w z) b' l' o' r'
 goes {m} {b} {l} {o} {b'} {l'} {o'} {r} {r'} w d e f t = subst (λ (v : Event). GoesOn m b l o r v b' l' o' r') (sym f ∙ e ∙ ap (event_of r.state w) d) t

@@ -9,7 +9,7 @@ use Rattle.filter.specs.Promise.{block_size, state_with_value}
 use Rattle.filter.specs.One.{puts_message_one}
 use Rattle.listrun.specs.Promise.{state_at_value}
 use Rattle.listrun.specs.One as List'
-use Rattle.nametable.specs.Promise.{Memory}
+use Rattle.nametable.specs.declared.Names.{Names}
 use Rattle.catalogue.specs.Promise.{NamesIn}
 use Rattle.catalogue.proofs.One.{names_in_one}
 use Rattle.cataloguerun.specs.declared.CatalogueRun.{CatalogueRun}
@@ -33,7 +33,7 @@ record Same (l m x y : List ℕ) (a c u v : ℕ) (w z : Stopped) : Type 0 where
   used : u ≡ v
   stopped : w ≡ z
 
-module _ (i : Memory) where
+module _ (i : Names) where
   same : {b : List ℕ} {s : ImportState} {l m x y : List ℕ} {a c u v o : ℕ} {ends : Bool} {w z : Stopped} → Imports (NamesIn i) ends o b s (import_state a l x u) w → Imports (NamesIn i) ends o b s (import_state c m y v) z → Same l m x y a c u v w z
   same p q =
       let (e, d) = imports_one (names_in_one i) p q in
@@ -54,7 +54,7 @@ pub record Turned (a b l m x y : List ℕ) (r q : ImportRun) : Type 0 where
   pub out : x ≡ y
   pub run : r ≡ q
 
-advances_one : {i : Memory} {b l x : List ℕ} {from n : ℕ} {ends : Bool} {o : ℕ} {b₁ b₂ l₁ l₂ x₁ x₂ : List ℕ} {r q : ImportRun} → Advances i b l x from n ends o b₁ l₁ x₁ r → Advances i b l x from n ends o b₂ l₂ x₂ q → Turned b₁ b₂ l₁ l₂ x₁ x₂ r q
+advances_one : {i : Names} {b l x : List ℕ} {from n : ℕ} {ends : Bool} {o : ℕ} {b₁ b₂ l₁ l₂ x₁ x₂ : List ℕ} {r q : ImportRun} → Advances i b l x from n ends o b₁ l₁ x₁ r → Advances i b l x from n ends o b₂ l₂ x₂ q → Turned b₁ b₂ l₁ l₂ x₁ x₂ r q
 advances_one {i} {o = o} (Advances.ended v) (Advances.ended w) = let e = same i v w in record { block = refl; line = e.line; out = e.out; run = ap (λ (u : ℕ). run_with_value (state_with_value Closing u) o) e.used }
 advances_one {i} (Advances.ended v) (Advances.full w) = other_stop (same i v w).stopped (λ e. cc)
 advances_one {i} (Advances.ended v) (Advances.spent t w k) = other_stop (same i v w).stopped (λ e. cc)
@@ -75,7 +75,7 @@ advances_one {i} (Advances.all_read t v) (Advances.full w) = other_stop (same i 
 advances_one (Advances.all_read t v) (Advances.spent t' w k) = absurd (true≢false (sym t ∙ t'))
 advances_one {i} {o = o} (Advances.all_read t v) (Advances.all_read t' w) = let e = same i v w in record { block = refl; line = e.line; out = e.out; run = ap (λ (u : ℕ). run_with_value (state_with_value Closing u) o) e.used }
 
-pub goes_on_one : {i : Memory} {b l x : List ℕ} {r : ImportRun} {v : Event} {b₁ b₂ l₁ l₂ x₁ x₂ : List ℕ} {p q : ImportRun} → GoesOn i b l x r v b₁ l₁ x₁ p → GoesOn i b l x r v b₂ l₂ x₂ q → Turned b₁ b₂ l₁ l₂ x₁ x₂ p q
+pub goes_on_one : {i : Names} {b l x : List ℕ} {r : ImportRun} {v : Event} {b₁ b₂ l₁ l₂ x₁ x₂ : List ℕ} {p q : ImportRun} → GoesOn i b l x r v b₁ l₁ x₁ p → GoesOn i b l x r v b₂ l₂ x₂ q → Turned b₁ b₂ l₁ l₂ x₁ x₂ p q
 goes_on_one (GoesOn.works_on a) (GoesOn.works_on c) = advances_one a c
 goes_on_one (GoesOn.last_record a) (GoesOn.last_record c) = advances_one a c
 goes_on_one {r = r} (GoesOn.cannot_read a) (GoesOn.cannot_read c) = let (e, f) = puts_message_one a c in record { block = refl; line = refl; out = e; run = ap (λ (s : State). run_with_value s r.offset) f }

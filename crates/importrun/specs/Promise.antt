@@ -10,7 +10,7 @@ use Rattle.filter.specs.declared.State.{State}
 use Rattle.filter.specs.Promise.{block_size, room_of, state_with_value, PutsMessage}
 use Rattle.listrun.specs.Promise as List'
 use Rattle.listrun.specs.Promise.{state_at_value}
-use Rattle.nametable.specs.Promise.{Memory}
+use Rattle.nametable.specs.declared.Names.{Names}
 use Rattle.catalogue.specs.Promise.{NamesIn}
 use Rattle.cataloguerun.specs.declared.CatalogueRun.{CatalogueRun}
 use Rattle.importing.specs.declared.Stopped.TheVariants as Stopped'
@@ -39,7 +39,7 @@ pub data Keeps (b : List ℕ) (at end : ℕ) : List ℕ → ℕ → Type 0 where
 -- With the catalogue in the memory m, records of the first n bytes of b, from an offset on, stand at the front of the output, where b begins at the
 -- offset o of the file. A refusal has ended the import; or the output was full before; or what is left is kept for the next read; or nothing is left,
 -- since the file has ended.
-pub data Advances (m : Memory) (b l x : List ℕ) (from n : ℕ) (ends : Bool) (o : ℕ) : List ℕ → List ℕ → List ℕ → ImportRun → Type 0 where
+pub data Advances (m : Names) (b l x : List ℕ) (from n : ℕ) (ends : Bool) (o : ℕ) : List ℕ → List ℕ → List ℕ → ImportRun → Type 0 where
   ended : {l' x' : List ℕ} {at u : ℕ} → Imports (NamesIn m) ends o (take n b) (import_state from l x 0) (import_state at l' x' u) Stopped'.Ended → Advances m b l x from n ends o b l' x' (run_with_value (state_with_value Closing u) o)
   full : {l' x' : List ℕ} {at u : ℕ} → Imports (NamesIn m) ends o (take n b) (import_state from l x 0) (import_state at l' x' u) Stopped'.Full → Advances m b l x from n ends o b l' x' (run_with_value (state_at_value Midway at n 0 u) o)
   spent : {b' l' x' : List ℕ} {at u k : ℕ} → ends ≡ false → Imports (NamesIn m) ends o (take n b) (import_state from l x 0) (import_state at l' x' u) Stopped'.Spent → Keeps b at (min n block_size) b' k
@@ -53,7 +53,7 @@ unfoldable pub unwritten : List ℕ
 unwritten = bytes "import: standard output could not be written; the import is not complete\n"
 
 -- A turn with the block b, the line buffer l and the output x, by what has happened.
-pub data GoesOn (m : Memory) (b l x : List ℕ) (r : ImportRun) : Event → List ℕ → List ℕ → List ℕ → ImportRun → Type 0 where
+pub data GoesOn (m : Names) (b l x : List ℕ) (r : ImportRun) : Event → List ℕ → List ℕ → List ℕ → ImportRun → Type 0 where
   works_on : {from n : ℕ} {b' l' x' : List ℕ} {r' : ImportRun} → Advances m b l x from (place_of (kept_of r.state) n) false r.offset b' l' x' r' → GoesOn m b l x r (Block from n) b' l' x' r'
   last_record : {b' l' x' : List ℕ} {r' : ImportRun} → Advances m b l x 0 (kept_of r.state) true r.offset b' l' x' r' → GoesOn m b l x r InputEnds b' l' x' r'
   cannot_read : {x' : List ℕ} {s : State} → PutsMessage unread x x' s → GoesOn m b l x r Unread b l x' (run_with_value s r.offset)

@@ -13,7 +13,7 @@ use Rattle.std.proofs.Math.Seq.{take_at}
 use Rattle.writer.specs.Promise.{put}
 use Rattle.writer.proofs.PutLaws.{length_put}
 use Rattle.columns.specs.Columns.{header}
-use Rattle.nametable.specs.Promise.{Memory}
+use Rattle.nametable.specs.declared.Names.{Names}
 use Rattle.catalogue.specs.Promise.{NamesIn}
 use Rattle.catalogue.proofs.Theorems.{named_with}
 use Rattle.cataloguerun.specs.declared.CatalogueRun.{CatalogueRun}
@@ -41,7 +41,7 @@ pub record Reads (k m : ℕ) (b c b' : List ℕ) : Type 0 where
   pub rest : drop (k + m) b' ≡ drop (k + m) b
   pub long : length b' ≡ length b
 
-module _ (m : Memory) where
+module _ (m : Names) where
   -- Turn after turn: the front of the output x is written, a read is made, and the next turn is asked for. The input is all that was read, and the text
   -- all that was written to standard output. A read of no bytes tells that the input has ended, and none comes after it; the flag tells whether there
   -- was such a read.
@@ -204,7 +204,7 @@ put_front : (x t : List ℕ) → take (length t) (put x 0 t) ≡ t
 put_front x t = take_at t (drop (0 + length t) x) (length t) refl
 
 -- what is written is the import of the catalogue and the input; where no read told the end of the input, whatever the rest of it is
-pub run_imports : {house : List ℕ} {run : CatalogueRun} {m : Memory} {f : Bool} {x x' : List ℕ} {r : ImportRun} {b l i t : List ℕ} → length b ≡ block_size → length i ≤ most_place → ComesTo house run m → Starts run x x' r → Turns m f r b l x' i t
+pub run_imports : {house : List ℕ} {run : CatalogueRun} {m : Names} {f : Bool} {x x' : List ℕ} {r : ImportRun} {b l i t : List ℕ} → length b ≡ block_size → length i ≤ most_place → ComesTo house run m → Starts run x x' r → Turns m f r b l x' i t
     → (z : List ℕ) → (f ≡ true → z ≡ []) → Import house (i ++ z) t
 unfolding Comes
 run_imports {house} {m = m} {x = x} {b = b} {i = i} {t} h k (ready p g) (Starts.starts (List'.Starts.with_catalogue List'.Begins.begins)) w z c =
@@ -216,6 +216,6 @@ run_imports {house} {x = x} {i = i} {t} h k (refused p) (Starts.starts (List'.St
     subst (Import house (i ++ z)) (sym (d ∙ put_front x (header ++ u))) (Import'.refused p y.is)
 
 -- so two runs on one catalogue and one input write the same
-pub any_run : {house : List ℕ} {run fun : CatalogueRun} {m n : Memory} {f g : Bool} {x x' y y' : List ℕ} {r q : ImportRun} {a b l k i t u : List ℕ} → length a ≡ block_size → length b ≡ block_size → length i ≤ most_place
+pub any_run : {house : List ℕ} {run fun : CatalogueRun} {m n : Names} {f g : Bool} {x x' y y' : List ℕ} {r q : ImportRun} {a b l k i t u : List ℕ} → length a ≡ block_size → length b ≡ block_size → length i ≤ most_place
     → ComesTo house run m → ComesTo house fun n → Starts run x x' r → Starts fun y y' q → Turns m f r a l x' i t → Turns n g q b k y' i u → t ≡ u
 any_run h j p c d v w e s = import_one (run_imports h p c v e [] (λ z. refl)) (run_imports j p d w s [] (λ z. refl))

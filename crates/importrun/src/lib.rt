@@ -6,11 +6,10 @@
 
 ghost use Rattle.std.specs.Prelude.{◌≡◌, ◌≤◌, min, length};
 ghost use Rattle.filter.specs.Promise.{event_of};
-ghost use Rattle.nametable.specs.Promise.{memory};
 ghost use Rattle.listrun.specs.Promise.{state_at_value};
 ghost use Rattle.importrun.specs.Promise.{run_with_value, kept_of, room_left, Starts, Keeps, Advances, GoesOn};
 
-use catalogue::{Links, Names};
+use catalogue::Names;
 use cataloguerun::CatalogueRun;
 use filter::{BLOCK_SIZE, Event, Phase, State};
 pub use importing::LONGEST_RECORD;
@@ -102,7 +101,6 @@ fn shorter(a: usize, b: usize) -> usize
 // Records of the block, from an offset on, up to another.
 fn advance(
     names: &Names,
-    links: &Links,
     block: &mut [u8; BLOCK_SIZE],
     from: usize,
     count: usize,
@@ -111,11 +109,10 @@ fn advance(
     line: &mut [u8; LONGEST_RECORD],
     out: &mut [u8; BLOCK_SIZE],
 ) -> ImportRun
-    ensures { Advances (memory names.now links.now) block.old line.old out.old from count ends offset block.new line.new out.new result }
+    ensures { Advances names.now block.old line.old out.old from count ends offset block.new line.new out.new result }
 {
     let p = importing::import_text(
         names,
-        links,
         filter::front(block, count),
         from,
         ends,
@@ -156,7 +153,6 @@ fn state_at(phase: Phase, at: usize, count: usize, held: usize, used: usize) -> 
 // The next turn, once the output was written or not, and a read has answered.
 pub fn go_on(
     names: &Names,
-    links: &Links,
     run: ImportRun,
     written: bool,
     got: isize,
@@ -164,7 +160,7 @@ pub fn go_on(
     line: &mut [u8; LONGEST_RECORD],
     out: &mut [u8; BLOCK_SIZE],
 ) -> ImportRun
-    ensures { GoesOn (memory names.now links.now) block.old line.old out.old run (event_of run.state written got) block.new line.new out.new result }
+    ensures { GoesOn names.now block.old line.old out.old run (event_of run.state written got) block.new line.new out.new result }
 {
     let state = run.state;
     let offset = run.offset;
@@ -172,9 +168,9 @@ pub fn go_on(
     match filter::happened(state, written, got, block) {
         Event::Block(from, count) => {
             let all = later_place(front, count);
-            advance(names, links, block, from, all, false, offset, line, out)
+            advance(names, block, from, all, false, offset, line, out)
         }
-        Event::InputEnds => advance(names, links, block, 0, front, true, offset, line, out),
+        Event::InputEnds => advance(names, block, 0, front, true, offset, line, out),
         Event::Unread => run_with(filter::say(&UNREAD, out), offset),
         Event::Unwritten => run_with(filter::say(&UNWRITTEN, out), offset),
         Event::Finished => run_with(filter::state_with(Phase::Ended, 0), offset),

@@ -9,7 +9,7 @@ use Rattle.std.specs.Prelude.{ℕ, ◌+◌, ◌≤◌, ◌≡◌, refl, List, []
 use Rattle.std.proofs.Common.{sym, ◌∙◌, ap, ap₂, subst, append_assoc, append-nil, arith, length-append, take_at}
 use Rattle.calendar.specs.Rows.{refuses}
 use Rattle.refusals.specs.declared.Refusal.{Refusal}
-use Rattle.nametable.specs.Promise.{Memory}
+use Rattle.nametable.specs.declared.Names.{Names}
 use Rattle.nametable.specs.Houses.{House}
 use Rattle.nametable.specs.Holds.{Holds}
 use Rattle.catalogue.specs.Catalogue.{catalogue, refused_by, Means}
@@ -175,7 +175,7 @@ module _ {N : Naming} where
 
 -- ---- the listing, from memory that holds the catalogue
 
-module _ {house : List ℕ} {hs : List House} (p : Means house (catalogue hs)) {m : Memory} (g : Holds m hs) where
+module _ {house : List ℕ} {hs : List House} (p : Means house (catalogue hs)) {m : Names} (g : Holds m hs) where
   -- the header and what the calls write are the listing of the catalogue and of what they read
   pub calls_list : {l : List ℕ} {cs : List (List ℕ)} {t : List ℕ} → length l ≡ longest_entry → Calls (NamesIn m) l 0 cs t → Listing house (joined cs) (header ++ t)
   calls_list {l} k s =
@@ -187,6 +187,6 @@ pub refused_lists : {house input : List ℕ} {f : Refusal} {t : List ℕ} → Me
 refused_lists p x = refused p x.is
 
 -- so it does not matter in what parts the input comes, nor what else the memory has
-pub any_reads : {house : List ℕ} {hs ks : List House} {m₁ m₂ : Memory} {l₁ l₂ : List ℕ} {cs ds : List (List ℕ)} {t u : List ℕ} → Means house (catalogue hs) → Means house (catalogue ks) → Holds m₁ hs → Holds m₂ ks
+pub any_reads : {house : List ℕ} {hs ks : List House} {m₁ m₂ : Names} {l₁ l₂ : List ℕ} {cs ds : List (List ℕ)} {t u : List ℕ} → Means house (catalogue hs) → Means house (catalogue ks) → Holds m₁ hs → Holds m₂ ks
     → length l₁ ≡ longest_entry → length l₂ ≡ longest_entry → Calls (NamesIn m₁) l₁ 0 cs t → Calls (NamesIn m₂) l₂ 0 ds u → joined cs ≡ joined ds → header ++ t ≡ header ++ u
 any_reads {house} {u = u} p q g h i j s v e = listing_one (calls_list p g i s) (subst (λ (x : List ℕ). Listing house x (header ++ u)) (sym e) (calls_list q h j v))

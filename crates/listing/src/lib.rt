@@ -8,7 +8,6 @@ mod held;
 
 ghost use Rattle.std.specs.Prelude.{◌+◌, ◌<◌, ◌≤◌, length};
 ghost use Rattle.writer.specs.Promise.{Writes};
-ghost use Rattle.nametable.specs.Promise.{memory};
 ghost use Rattle.catalogue.specs.Promise.{NamesIn};
 ghost use Rattle.linetext.specs.Line.{longest_line};
 ghost use Rattle.linetext.specs.Promise.{LineOut};
@@ -16,7 +15,7 @@ ghost use Rattle.listing.specs.Lines.{Listed};
 ghost use Rattle.listing.specs.Promise.{HeldLine, block_state, NextLine, Lists};
 ghost use Rattle.listing.specs.Laws.{Wrote};
 
-use catalogue::{Links, Names};
+use catalogue::Names;
 pub use columns::put_header;
 pub use entry::LONGEST_ENTRY;
 use held::held_line;
@@ -27,10 +26,10 @@ use textlines::add_to_line;
 use writer::buffer;
 
 // The text of its answer, with a newline.
-pub fn list_line(names: &Names, links: &Links, line: &[u8], out: &mut [u8], at: usize) -> Result<usize, Refusal>
-    ensures { Writes (Listed (NamesIn (memory names.now links.now)) line.now) out.old at out.new result }
+pub fn list_line(names: &Names, line: &[u8], out: &mut [u8], at: usize) -> Result<usize, Refusal>
+    ensures { Writes (Listed (NamesIn names.now) line.now) out.old at out.new result }
 {
-    let answer = entry::line_answer(names, links, line);
+    let answer = entry::line_answer(names, line);
     linetext::put_line(out, at, columns::line_of(answer))
 }
 
@@ -52,16 +51,15 @@ pub struct Progress {
 // What is written for the line that is held, where there is room for it.
 fn put_held(
     names: &Names,
-    links: &Links,
     line: &[u8; LONGEST_ENTRY],
     held: usize,
     out: &mut [u8],
     at: usize,
 ) -> usize
     requires { at + longest_line ≤ length out.old }
-    ensures { Wrote (HeldLine (NamesIn (memory names.now links.now)) line.now held) out.old at out.new result }
+    ensures { Wrote (HeldLine (NamesIn names.now) line.now held) out.old at out.new result }
 {
-    match linetext::put_line(out, at, held_line(names, links, line, held)) {
+    match linetext::put_line(out, at, held_line(names, line, held)) {
         Ok(next) => next,
         Err(_) => at,
     }
@@ -70,7 +68,6 @@ fn put_held(
 // Lists one line of the block, or holds what the block has of it.
 fn list_next(
     names: &Names,
-    links: &Links,
     block: &[u8],
     at: usize,
     line: &mut [u8; LONGEST_ENTRY],
@@ -79,12 +76,12 @@ fn list_next(
     used: usize,
 ) -> Progress
     requires { (at < length block.now) × (used + longest_line ≤ length out.old) }
-    ensures { NextLine (NamesIn (memory names.now links.now)) block.now (block_state at line.old held out.old used) (block_state result.at line.new result.held out.new result.used) }
+    ensures { NextLine (NamesIn names.now) block.now (block_state at line.old held out.old used) (block_state result.at line.new result.held out.new result.used) }
 {
     let end = bytesearch::up_to(block, at, b'\n');
     let n = add_to_line(line, held, &block[at..end]);
     if end < block.len() {
-        let next = put_held(names, links, line, n, out, used);
+        let next = put_held(names, line, n, out, used);
         return Progress {
             at: end + 1,
             held: 0,
@@ -101,7 +98,6 @@ fn list_next(
 // Lists the lines of a block from an offset on, as long as the output has room. A line that is held goes on in the next block.
 pub fn list_block(
     names: &Names,
-    links: &Links,
     block: &[u8],
     from: usize,
     line: &mut [u8; LONGEST_ENTRY],
@@ -109,7 +105,7 @@ pub fn list_block(
     out: &mut [u8],
     used: usize,
 ) -> Progress
-    ensures { Lists (NamesIn (memory names.now links.now)) block.now (block_state from line.old held out.old used) (block_state result.at line.new result.held out.new result.used) }
+    ensures { Lists (NamesIn names.now) block.now (block_state from line.old held out.old used) (block_state result.at line.new result.held out.new result.used) }
 {
     let mut p = Progress {
         at: from,
@@ -118,7 +114,7 @@ pub fn list_block(
     };
     while p.at < block.len() {
         if buffer::has_room(out.len(), p.used, LONGEST_LINE) {
-            p = list_next(names, links, block, p.at, line, p.held, out, p.used);
+            p = list_next(names, block, p.at, line, p.held, out, p.used);
         } else {
             return p;
         }

@@ -5,13 +5,12 @@
 
 ghost use Rattle.std.specs.Prelude.{◌≤◌, length};
 
-use catalogue::{LINK_COUNT, Links, NAME_BYTES, Names};
+use catalogue::Names;
 use listing::LONGEST_ENTRY;
 
 // The listing of two blocks, the first of `cut` bytes: how many bytes it has.
 fn list_cut(
     names: &Names,
-    links: &Links,
     input: &[u8],
     cut: usize,
     line: &mut [u8; LONGEST_ENTRY],
@@ -19,10 +18,9 @@ fn list_cut(
 ) -> usize
     requires { cut ≤ length input.now }
 {
-    let first = listing::list_block(names, links, &input[..cut], 0, line, 0, out, 0);
+    let first = listing::list_block(names, &input[..cut], 0, line, 0, out, 0);
     let second = listing::list_block(
         names,
-        links,
         &input[cut..],
         0,
         line,
@@ -30,7 +28,7 @@ fn list_cut(
         out,
         first.used,
     );
-    match listing::list_last(names, links, line, second.held, out, second.used) {
+    match listing::list_last(names, line, second.held, out, second.used) {
         Ok(size) => size,
         Err(_) => 0,
     }
@@ -45,7 +43,6 @@ fn front<'a>(s: &'a [u8], size: usize) -> &'a [u8] {
 
 fn is_same(
     names: &Names,
-    links: &Links,
     input: &[u8],
     cut: usize,
     line: &mut [u8; LONGEST_ENTRY],
@@ -54,14 +51,13 @@ fn is_same(
 ) -> bool
     requires { cut ≤ length input.now }
 {
-    let size = list_cut(names, links, input, cut, line, out);
+    let size = list_cut(names, input, cut, line, out);
     front(out, size) == expected
 }
 
 // How many of the ways to cut the input in two give the expected listing.
 fn same_ways(
     names: &Names,
-    links: &Links,
     input: &[u8],
     line: &mut [u8; LONGEST_ENTRY],
     out: &mut [u8],
@@ -70,7 +66,7 @@ fn same_ways(
     let mut same: u64 = 0;
     let mut cut: usize = 0;
     while cut < input.len() {
-        if is_same(names, links, input, cut, line, out, expected) {
+        if is_same(names, input, cut, line, out, expected) {
             same = std::num::wrapping_add_u64(same, 1);
         }
         cut += 1;
@@ -97,17 +93,16 @@ fn write_counts(rt: &HostRuntime, ways: u64, same: u64) {
 fn check_all(
     rt: &HostRuntime,
     names: &Names,
-    links: &Links,
     input: &[u8],
     line: &mut [u8; LONGEST_ENTRY],
     out: &mut [u8],
     other: &mut [u8],
 ) {
     write_header(rt, out);
-    let size = list_cut(names, links, input, 0, line, out);
+    let size = list_cut(names, input, 0, line, out);
     let expected = front(out, size);
     streams::print(rt, expected);
-    let same = same_ways(names, links, input, line, other, expected);
+    let same = same_ways(names, input, line, other, expected);
     write_counts(rt, input.len() as u64, same);
 }
 
@@ -116,13 +111,11 @@ fn main(rt: HostRuntime) {
     let mut out = [0u8; 4096];
     let mut other = [0u8; 4096];
     let mut line = [0u8; LONGEST_ENTRY];
-    let names = [0u8; NAME_BYTES];
-    let links = [0u32; LINK_COUNT];
+    let names = Names::new();
     let size = streams::read_full(&mut rt.stdin(), &mut input);
     check_all(
         &rt,
         &names,
-        &links,
         &input[..size],
         &mut line,
         &mut out,

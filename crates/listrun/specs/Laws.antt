@@ -16,7 +16,7 @@ use Rattle.filter.specs.declared.State.{State}
 use Rattle.filter.specs.Promise.{event_of, state_with_value, block_size}
 use Rattle.linetext.specs.Line.{longest_line}
 use Rattle.linetext.specs.Promise.{LineOut}
-use Rattle.nametable.specs.Promise.{Memory}
+use Rattle.nametable.specs.declared.Names.{Names}
 use Rattle.catalogue.specs.Promise.{NamesIn}
 use Rattle.cataloguerun.specs.declared.CatalogueRun.{CatalogueRun}
 use Rattle.listrun.specs.Promise.{Begins, Refuses, Starts, state_at_value, Advances, Closes, GoesOn}
@@ -31,7 +31,7 @@ module _ {P : List ℕ → Type 0} {o : List ℕ} (short : (t : List ℕ) → P 
   not_refused : {o' : List ℕ} {f : Refusal} → Writes P o 0 o' (Err f) → ⊥
   not_refused (Writes.writes {t} p (Puts.short h)) = omega (arith, short t p)
 
-last_short : (m : Memory) (l : List ℕ) (n : ℕ) (t : List ℕ) → LastLine (NamesIn m) l n t → length t ≤ longest_line
+last_short : (m : Names) (l : List ℕ) (n : ℕ) (t : List ℕ) → LastLine (NamesIn m) l n t → length t ≤ longest_line
 last_short m l n t LastLine.no_more = omega arith
 last_short m l n t (LastLine.one_more h x) = held_short x
 
@@ -48,7 +48,7 @@ module _ {o o' : List ℕ} (long : length o ≡ block_size) where
   pub begins_always : {f : Refusal} → PutsHeader o 0 o' (Err f) → ⊥
   begins_always = not_refused header_short long
 
-  module _ {m : Memory} {l : List ℕ} {h : ℕ} where
+  module _ {m : Names} {l : List ℕ} {h : ℕ} where
     pub closes_with : {n : ℕ} {s : State} → Writes (LastLine (NamesIn m) l h) o 0 o' (Ok n) → s ≡ state_with_value Closing n → Closes m l h o o' s
     closes_with {n} {s} w e =
         let (t, p, q, k) = written (last_short m l h) long w in
@@ -91,10 +91,10 @@ starts {o = o} {o'} {s} q w = subst (λ (v : CatalogueRun). Starts v o o' s) (sy
 
 -- ---- a turn
 
-lists_in : {m : Memory} {c d : List ℕ} {s e : BlockState} → c ≡ d → Lists (NamesIn m) c s e → Lists (NamesIn m) d s e
+lists_in : {m : Names} {c d : List ℕ} {s e : BlockState} → c ≡ d → Lists (NamesIn m) c s e → Lists (NamesIn m) d s e
 lists_in {m} {s = s} {e} q w = subst (λ (x : List ℕ). Lists (NamesIn m) x s e) q w
 
-module _ {m : Memory} {b c l o l' o' : List ℕ} {from n h at h' u : ℕ} {s : State} (e : c ≡ take n b) (w : Lists (NamesIn m) c (block_state from l h o 0) (block_state at l' h' o' u)) where
+module _ {m : Names} {b c l o l' o' : List ℕ} {from n h at h' u : ℕ} {s : State} (e : c ≡ take n b) (w : Lists (NamesIn m) c (block_state from l h o 0) (block_state at l' h' o' u)) where
   pub stays_within : at < n → s ≡ state_at_value Midway at n h' u → Advances m b l o from n h l' o' s
   stays_within i q = subst (Advances m b l o from n h l' o') (sym q) (Advances.within (lists_in e w) i)
 
@@ -102,5 +102,5 @@ module _ {m : Memory} {b c l o l' o' : List ℕ} {from n h at h' u : ℕ} {s : S
   uses_up i q = subst (Advances m b l o from n h l' o') (sym q) (Advances.used_up (lists_in e w) i)
 
 -- by what has happened, where the answer of the read was handed on as g
-pub goes : {m : Memory} {b l o l' o' : List ℕ} {s s' : State} {x y : Event} (w : Bool) {g z : ℤ} → g ≡ z → x ≡ event_of s w g → x ≡ y → GoesOn m b l o s y l' o' s' → GoesOn m b l o s (event_of s w z) l' o' s'
+pub goes : {m : Names} {b l o l' o' : List ℕ} {s s' : State} {x y : Event} (w : Bool) {g z : ℤ} → g ≡ z → x ≡ event_of s w g → x ≡ y → GoesOn m b l o s y l' o' s' → GoesOn m b l o s (event_of s w z) l' o' s'
 goes {m} {b} {l} {o} {l'} {o'} {s} {s'} w d e f t = subst (λ (v : Event). GoesOn m b l o s v l' o' s') (sym f ∙ e ∙ ap (event_of s w) d) t

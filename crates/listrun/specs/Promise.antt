@@ -13,7 +13,7 @@ use Rattle.filter.specs.declared.State.{State}
 use Rattle.filter.specs.Promise.{state_with_value, PutsMessage}
 use Rattle.refusals.specs.declared.Refusal.{Refusal}
 use Rattle.linetext.specs.Promise.{LineOut}
-use Rattle.nametable.specs.Promise.{Memory}
+use Rattle.nametable.specs.declared.Names.{Names}
 use Rattle.catalogue.specs.Promise.{NamesIn}
 use Rattle.cataloguerun.specs.declared.CatalogueRun.{CatalogueRun}
 use Rattle.cataloguerun.specs.declared.CatalogueRun.TheVariants as Run'
@@ -38,12 +38,12 @@ state_at_value p at n h u = record { phase = p; at = at; count = n; held = h; us
 
 -- With the catalogue in the memory m, lines of the first n bytes of b, from an offset on, stand at the front of the output, with h bytes of a line
 -- held before them in l. Those bytes are then used up, or the output was full before.
-pub data Advances (m : Memory) (b l o : List ℕ) (from n h : ℕ) : List ℕ → List ℕ → State → Type 0 where
+pub data Advances (m : Names) (b l o : List ℕ) (from n h : ℕ) : List ℕ → List ℕ → State → Type 0 where
   used_up : {l' o' : List ℕ} {at h' u : ℕ} → Lists (NamesIn m) (take n b) (block_state from l h o 0) (block_state at l' h' o' u) → n ≤ at → Advances m b l o from n h l' o' (state_at_value Reading at n h' u)
   within : {l' o' : List ℕ} {at h' u : ℕ} → Lists (NamesIn m) (take n b) (block_state from l h o 0) (block_state at l' h' o' u) → at < n → Advances m b l o from n h l' o' (state_at_value Midway at n h' u)
 
 -- the last line, where it had no newline, stands there
-pub data Closes (m : Memory) (l : List ℕ) (h : ℕ) (o : List ℕ) : List ℕ → State → Type 0 where
+pub data Closes (m : Names) (l : List ℕ) (h : ℕ) (o : List ℕ) : List ℕ → State → Type 0 where
   closes : {t : List ℕ} → LastLine (NamesIn m) l h t → Closes m l h o (put o 0 t) (state_with_value Closing (length t))
 
 unfoldable pub unread : List ℕ
@@ -53,7 +53,7 @@ unfoldable pub unwritten : List ℕ
 unwritten = bytes "list: standard output could not be written; the listing is not complete\n"
 
 -- A turn with the block b, the line buffer l and the output o, by what has happened.
-pub data GoesOn (m : Memory) (b l o : List ℕ) (s : State) : Event → List ℕ → List ℕ → State → Type 0 where
+pub data GoesOn (m : Names) (b l o : List ℕ) (s : State) : Event → List ℕ → List ℕ → State → Type 0 where
   works_on : {from n : ℕ} {l' o' : List ℕ} {s' : State} → Advances m b l o from n s.held l' o' s' → GoesOn m b l o s (Block from n) l' o' s'
   last_line : {o' : List ℕ} {s' : State} → Closes m l s.held o o' s' → GoesOn m b l o s InputEnds l o' s'
   cannot_read : {o' : List ℕ} {s' : State} → PutsMessage unread o o' s' → GoesOn m b l o s Unread l o' s'

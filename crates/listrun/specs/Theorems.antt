@@ -15,7 +15,7 @@ use Rattle.listing.specs.One.{listing_one}
 use Rattle.textlines.specs.Lines.{joined}
 use Rattle.listing.specs.Theorems.{Calls, calls_list, refused_lists}
 use Rattle.refusals.specs.declared.Refusal.{Refusal}
-use Rattle.nametable.specs.Promise.{Memory}
+use Rattle.nametable.specs.declared.Names.{Names}
 use Rattle.catalogue.specs.Promise.{NamesIn}
 use Rattle.catalogue.specs.Catalogue.{refused_by, Means}
 use Rattle.cataloguerun.specs.declared.CatalogueRun.{CatalogueRun}
@@ -36,7 +36,7 @@ pub record Reads (m : ℕ) (b c b' : List ℕ) : Type 0 where
   pub front : take (length c) b' ≡ c
   pub rest : drop m b' ≡ drop m b
 
-module _ (m : Memory) where
+module _ (m : Names) where
   -- Turn after turn: the front of the output o is written, a read is made, and the next turn is asked for. The input is all that was read, and the text
   -- all that was written to standard output.
   pub data Turns : State → List ℕ → List ℕ → List ℕ → List ℕ → List ℕ → Type 0 where
@@ -139,13 +139,13 @@ module _ (m : Memory) where
 -- ---- the theorems
 
 -- where the catalogue is refused, nothing is read, and what is written is the listing, whatever the input is
-pub run_refused : {house : List ℕ} {f : Refusal} {m : Memory} {o o' : List ℕ} {s : State} {b l i t : List ℕ} → Means house (refused_by f) → Refuses f o o' s → Turns m s b l o' i t → (i ≡ []) × ((input : List ℕ) → Listing house input t)
+pub run_refused : {house : List ℕ} {f : Refusal} {m : Names} {o o' : List ℕ} {s : State} {b l i t : List ℕ} → Means house (refused_by f) → Refuses f o o' s → Turns m s b l o' i t → (i ≡ []) × ((input : List ℕ) → Listing house input t)
 run_refused {house} {m = m} {o} p (Refuses.refuses {t = u} x) w =
     let (e, f) = closed m (follows m w) in
     (e, λ input. subst (Listing house input) (sym (f ∙ put_front m o (header ++ u))) (refused_lists p x))
 
 -- what is written is the listing of the catalogue and the input
-pub run_lists : {house : List ℕ} {run : CatalogueRun} {m : Memory} {o o' : List ℕ} {s : State} {b l i t : List ℕ} → length l ≡ longest_entry → ComesTo house run m → Starts run o o' s → Turns m s b l o' i t → Listing house i t
+pub run_lists : {house : List ℕ} {run : CatalogueRun} {m : Names} {o o' : List ℕ} {s : State} {b l i t : List ℕ} → length l ≡ longest_entry → ComesTo house run m → Starts run o o' s → Turns m s b l o' i t → Listing house i t
 run_lists {house} {m = m} {o} {i = i} {t = t} k (ready p g) (Starts.with_catalogue Begins.begins) w =
     let c = comes m (follows m w) in
     let e : t ≡ header ++ c.lines = c.text ∙ ap (λ (x : List ℕ). x ++ c.lines) (put_front m o header) in
@@ -153,10 +153,10 @@ run_lists {house} {m = m} {o} {i = i} {t = t} k (ready p g) (Starts.with_catalog
 run_lists {i = i} k (refused p) (Starts.with_refused x) w = (run_refused p x w).1 i
 
 -- so two runs on one catalogue and one input write the same
-pub any_run : {house : List ℕ} {run fun : CatalogueRun} {m n : Memory} {o o' p p' : List ℕ} {s r : State} {a b l k i t u : List ℕ} → length l ≡ longest_entry → length k ≡ longest_entry
+pub any_run : {house : List ℕ} {run fun : CatalogueRun} {m n : Names} {o o' p p' : List ℕ} {s r : State} {a b l k i t u : List ℕ} → length l ≡ longest_entry → length k ≡ longest_entry
     → ComesTo house run m → ComesTo house fun n → Starts run o o' s → Starts fun p p' r → Turns m s a l o' i t → Turns n r b k p' i u → t ≡ u
 any_run j h c d x y v w = listing_one (run_lists j c x v) (run_lists h d y w)
 
-pub goes_further : {m : Memory} {b l o l' o' : List ℕ} {from n h : ℕ} {s : State} → longest_line ≤ length o → from < length (take n b) → Advances m b l o from n h l' o' s → from < s.at
+pub goes_further : {m : Names} {b l o l' o' : List ℕ} {from n h : ℕ} {s : State} → longest_line ≤ length o → from < length (take n b) → Advances m b l o from n h l' o' s → from < s.at
 goes_further h i (Advances.used_up w k) = lists_grow w i (omega arith)
 goes_further h i (Advances.within w k) = lists_grow w i (omega arith)

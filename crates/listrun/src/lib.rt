@@ -6,10 +6,9 @@
 
 ghost use Rattle.std.specs.Prelude.{◌≡◌};
 ghost use Rattle.filter.specs.Promise.{event_of};
-ghost use Rattle.nametable.specs.Promise.{memory};
 ghost use Rattle.listrun.specs.Promise.{Begins, Refuses, Starts, GoesOn, Advances, Closes, state_at_value};
 
-use catalogue::{Links, Names};
+use catalogue::Names;
 use cataloguerun::CatalogueRun;
 use filter::{BLOCK_SIZE, Event, Phase, State};
 pub use listing::LONGEST_ENTRY;
@@ -59,7 +58,6 @@ fn refuse(why: Refusal, out: &mut [u8; BLOCK_SIZE]) -> State
 // The next turn, once the output was written or not, and a read has answered.
 pub fn go_on(
     names: &Names,
-    links: &Links,
     state: State,
     written: bool,
     got: isize,
@@ -67,13 +65,13 @@ pub fn go_on(
     line: &mut [u8; LONGEST_ENTRY],
     out: &mut [u8; BLOCK_SIZE],
 ) -> State
-    ensures { GoesOn (memory names.now links.now) block.now line.old out.old state (event_of state written got) line.new out.new result }
+    ensures { GoesOn names.now block.now line.old out.old state (event_of state written got) line.new out.new result }
 {
     match filter::happened(state, written, got, block) {
         Event::Block(from, count) => advance(
-            names, links, block, from, count, line, state.held, out,
+            names, block, from, count, line, state.held, out,
         ),
-        Event::InputEnds => close(names, links, line, state.held, out),
+        Event::InputEnds => close(names, line, state.held, out),
         Event::Unread => filter::say(&UNREAD, out),
         Event::Unwritten => filter::say(&UNWRITTEN, out),
         Event::Finished => filter::state_with(Phase::Ended, 0),
@@ -83,7 +81,6 @@ pub fn go_on(
 // Lines of the block, from an offset on.
 fn advance(
     names: &Names,
-    links: &Links,
     block: &[u8; BLOCK_SIZE],
     from: usize,
     count: usize,
@@ -91,11 +88,10 @@ fn advance(
     held: usize,
     out: &mut [u8; BLOCK_SIZE],
 ) -> State
-    ensures { Advances (memory names.now links.now) block.now line.old out.old from count held line.new out.new result }
+    ensures { Advances names.now block.now line.old out.old from count held line.new out.new result }
 {
     let p = listing::list_block(
         names,
-        links,
         filter::front(block, count),
         from,
         line,
@@ -124,14 +120,13 @@ fn state_at(phase: Phase, p: Progress, count: usize) -> State
 // The last line, where it had no newline.
 fn close(
     names: &Names,
-    links: &Links,
     line: &[u8; LONGEST_ENTRY],
     held: usize,
     out: &mut [u8; BLOCK_SIZE],
 ) -> State
-    ensures { Closes (memory names.now links.now) line.now held out.old out.new result }
+    ensures { Closes names.now line.now held out.old out.new result }
 {
-    match listing::list_last(names, links, line, held, out, 0) {
+    match listing::list_last(names, line, held, out, 0) {
         Ok(used) => filter::state_with(Phase::Closing, used),
         Err(_) => filter::state_with(Phase::Closing, 0),
     }

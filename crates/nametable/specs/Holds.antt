@@ -3,7 +3,8 @@ use Rattle.std.specs.Prelude.{◌≡◌, ℕ, ◌+◌, ◌-◌, ◌*◌, ◌<◌
 use Rattle.nametable.specs.Limits.{most_lines, most_name, slot, heads}
 use Rattle.nametable.specs.Houses.{House, line_at, name_at}
 use Rattle.nametable.specs.Hash.{bucket_of_value}
-use Rattle.nametable.specs.Promise.{Memory, Stands, head_of, next_of, number_of}
+use Rattle.nametable.specs.Promise.{Stands, head_of, next_of, number_of}
+use Rattle.nametable.specs.declared.Names.{Names}
 
 abbrev pub chain_at : List House → ℕ → ℕ
 chain_at hs k = bucket_of_value (name_at hs k)
@@ -14,16 +15,16 @@ pub record Latest (hs : List House) (b n v : ℕ) : Type 0 where
   pub is : 0 < v → chain_at hs (v - 1) ≡ b
   pub after : (j : ℕ) → v ≤ j → j < n → ¬ (chain_at hs j ≡ b)
 
-pub record Sized (m : Memory) : Type 0 where
-  pub names : length m.names ≡ most_lines * slot
+pub record Sized (m : Names) : Type 0 where
+  pub names : length m.slots ≡ most_lines * slot
   pub links : length m.links ≡ heads + 2 * most_lines
 
 -- the memory holds the list
-pub record Holds (m : Memory) (hs : List House) : Type 0 where
+pub record Holds (m : Names) (hs : List House) : Type 0 where
   pub sized : Sized m
   pub few : length hs ≤ most_lines
   pub short : (k : ℕ) → k < length hs → length (name_at hs k) ≤ most_name
-  pub stands : (k : ℕ) → k < length hs → Stands m.names k (name_at hs k)
+  pub stands : (k : ℕ) → k < length hs → Stands m.slots k (name_at hs k)
   pub numbers : (k : ℕ) → k < length hs → number_of m.links k ≡ (line_at hs k).number
   pub first : (b : ℕ) → b < heads → Latest hs b (length hs) (head_of m.links b)
   pub next : (k : ℕ) → k < length hs → Latest hs (chain_at hs k) k (next_of m.links k)

@@ -6,7 +6,8 @@ use Rattle.whole.specs.Whether.{Whether}
 use Rattle.writer.specs.Promise.{put, Copies, copied, no_room}
 use Rattle.nametable.specs.Limits.{most_lines, most_name, slot}
 use Rattle.nametable.specs.Hash.{bucket_of_value}
-use Rattle.nametable.specs.Promise.{Memory, memory, Alike, Stands, head_of, next_of, number_of, Walk, ended, here, astray, onward, Finds, walks, lost, entered, linked, Enters, enters}
+use Rattle.nametable.specs.Promise.{memory, Alike, Stands, head_of, next_of, number_of, Walk, ended, here, astray, onward, Finds, walks, lost, entered, linked, Enters, enters}
+use Rattle.nametable.specs.declared.Names.{Names}
 
 pub stands_by : (names : List ℕ) (k : ℕ) (s : List ℕ) (b : Bool) → slice_index names (k * slot + most_name) ≡ length s → Whether (Alike s names (k * slot)) b → Whether (Stands names k s) b
 stands_by names k s true e a = record { long = e; bytes = a }
@@ -14,22 +15,22 @@ stands_by names k s false e n = λ w. n w.bytes
 
 -- ---- from link to link: what is found from here on is found from the beginning
 
-pub record Walking (m : Memory) (s : List ℕ) (from at : ℕ) : Type 0 where
+pub record Walking (m : Names) (s : List ℕ) (from at : ℕ) : Type 0 where
   pub few : at ≤ most_lines
   pub leads : (a : Option ℤ) → Walk m s at a → Walk m s from a
 
-pub walking_start : (m : Memory) (s : List ℕ) (from : ℕ) → from ≤ most_lines → Walking m s from from
+pub walking_start : (m : Names) (s : List ℕ) (from : ℕ) → from ≤ most_lines → Walking m s from from
 walking_start m s from h = record { few = h; leads = λ a w. w }
 
-module _ {m : Memory} {s : List ℕ} {from at : ℕ} (g : Walking m s from at) where
+module _ {m : Names} {s : List ℕ} {from at : ℕ} (g : Walking m s from at) where
   pub walking_ended : at ≤ 0 → Walk m s from None
   walking_ended h = g.leads _ (ended h)
 
   module _ (h : 0 < at) where
-    pub walking_here : {z : ℤ} → Stands m.names (at - 1) s → z ≡ number_of m.links (at - 1) → Walk m s from (Some z)
+    pub walking_here : {z : ℤ} → Stands m.slots (at - 1) s → z ≡ number_of m.links (at - 1) → Walk m s from (Some z)
     walking_here w e = subst (λ (x : ℤ). Walk m s from (Some x)) (sym e) (g.leads _ (here h w))
 
-    module _ {next : ℕ} (n : ¬ Stands m.names (at - 1) s) (e : next ≡ next_of m.links (at - 1)) where
+    module _ {next : ℕ} (n : ¬ Stands m.slots (at - 1) s) (e : next ≡ next_of m.links (at - 1)) where
       pub walking_astray : at ≤ next → Walk m s from None
       walking_astray l = g.leads _ (astray h n (subst (λ (x : ℕ). at ≤ x) e l))
 
@@ -41,7 +42,7 @@ module _ {m : Memory} {s : List ℕ} {from at : ℕ} (g : Walking m s from at) w
 
 -- ---- finding
 
-module _ (m : Memory) (s : List ℕ) {b from : ℕ} (h : length s ≤ most_name) (e : b ≡ bucket_of_value s) (f : from ≡ head_of m.links b) where
+module _ (m : Names) (s : List ℕ) {b from : ℕ} (h : length s ≤ most_name) (e : b ≡ bucket_of_value s) (f : from ≡ head_of m.links b) where
   head_is : from ≡ head_of m.links (bucket_of_value s)
   head_is = f ∙ ap (head_of m.links) e
 

@@ -5,13 +5,10 @@ use Rattle.whole.specs.Promise.{unbias}
 use Rattle.writer.specs.Promise.{put}
 use Rattle.nametable.specs.Limits.{most_lines, most_name, slot, heads}
 use Rattle.nametable.specs.Hash.{bucket_of_value}
+use Rattle.nametable.specs.declared.Names.{Names}
 
-pub record Memory : Type 0 where
-  pub names : List ℕ
-  pub links : List ℕ
-
-abbrev pub memory : List ℕ → List ℕ → Memory
-memory n l = record { names = n; links = l }
+abbrev pub memory : List ℕ → List ℕ → Names
+memory s l = record { slots = s; links = l }
 
 -- ---- slots and links
 
@@ -36,13 +33,13 @@ number_of links k = unbias (2 ^ 31) (slice_index links (heads + 2 * k + 1))
 
 -- ---- finding: from the link `at`, which is one more than the number of a line, or 0
 
-pub data Walk (m : Memory) (s : List ℕ) : ℕ → Option ℤ → Type 0 where
+pub data Walk (m : Names) (s : List ℕ) : ℕ → Option ℤ → Type 0 where
   ended : {at : ℕ} → at ≤ 0 → Walk m s at None
-  here : {at : ℕ} → 0 < at → Stands m.names (at - 1) s → Walk m s at (Some (number_of m.links (at - 1)))
-  astray : {at : ℕ} → 0 < at → ¬ Stands m.names (at - 1) s → at ≤ next_of m.links (at - 1) → Walk m s at None
-  onward : {at : ℕ} {a : Option ℤ} → 0 < at → ¬ Stands m.names (at - 1) s → next_of m.links (at - 1) < at → Walk m s (next_of m.links (at - 1)) a → Walk m s at a
+  here : {at : ℕ} → 0 < at → Stands m.slots (at - 1) s → Walk m s at (Some (number_of m.links (at - 1)))
+  astray : {at : ℕ} → 0 < at → ¬ Stands m.slots (at - 1) s → at ≤ next_of m.links (at - 1) → Walk m s at None
+  onward : {at : ℕ} {a : Option ℤ} → 0 < at → ¬ Stands m.slots (at - 1) s → next_of m.links (at - 1) < at → Walk m s (next_of m.links (at - 1)) a → Walk m s at a
 
-pub data Finds (m : Memory) (s : List ℕ) : Option ℤ → Type 0 where
+pub data Finds (m : Names) (s : List ℕ) : Option ℤ → Type 0 where
   too_long : most_name < length s → Finds m s None
   lost : length s ≤ most_name → most_lines < head_of m.links (bucket_of_value s) → Finds m s None
   walks : {a : Option ℤ} → length s ≤ most_name → head_of m.links (bucket_of_value s) ≤ most_lines → Walk m s (head_of m.links (bucket_of_value s)) a → Finds m s a
@@ -55,7 +52,7 @@ entered names k s = slice_set (put names (k * slot) s) (k * slot + most_name) (l
 abbrev pub linked : List ℕ → ℕ → ℕ → ℕ → List ℕ
 linked links k b d = slice_set (slice_set (slice_set links (heads + 2 * k) (head_of links b)) (heads + 2 * k + 1) d) b (k + 1)
 
-pub data Enters (m : Memory) (k : ℕ) (s : List ℕ) (z : ℤ) : Memory → Bool → Type 0 where
+pub data Enters (m : Names) (k : ℕ) (s : List ℕ) (z : ℤ) : Names → Bool → Type 0 where
   no_slot : most_lines ≤ k → Enters m k s z m false
   no_room : most_name < length s → Enters m k s z m false
-  enters : (d : ℕ) → k < most_lines → length s ≤ most_name → unbias (2 ^ 31) d ≡ z → Enters m k s z (memory (entered m.names k s) (linked m.links k (bucket_of_value s) d)) true
+  enters : (d : ℕ) → k < most_lines → length s ≤ most_name → unbias (2 ^ 31) d ≡ z → Enters m k s z (memory (entered m.slots k s) (linked m.links k (bucket_of_value s) d)) true

@@ -12,14 +12,15 @@ use Rattle.writer.proofs.PutLaws.{length_put}
 use Rattle.nametable.specs.Limits.{most_lines, most_name, slot, heads}
 use Rattle.nametable.specs.Hash.{bucket_of_value}
 use Rattle.nametable.specs.HashLaws.{bucket_small}
-use Rattle.nametable.specs.Promise.{Memory, memory, Stands, head_of, next_of, number_of, Walk, ended, here, astray, onward, Finds, too_long, lost, walks, entered, linked}
+use Rattle.nametable.specs.Promise.{memory, Stands, head_of, next_of, number_of, Walk, ended, here, astray, onward, Finds, too_long, lost, walks, entered, linked}
+use Rattle.nametable.specs.declared.Names.{Names}
 use Rattle.nametable.specs.One.{stands_one}
 use Rattle.nametable.specs.Houses.{House, house, line_at, name_at}
 use Rattle.nametable.specs.Holds.{chain_at, Latest, Sized, Holds, Has, has, has_not}
 
 -- ---- finding in memory that holds a list
 
-module _ {m : Memory} {hs : List House} (g : Holds m hs) (s : List ℕ) where
+module _ {m : Names} {hs : List House} (g : Holds m hs) (s : List ℕ) where
   -- the lines from link v on have other names, and the line that it leads to is of the chain of s
   walk_has : {v : ℕ} {a : Option ℤ} → v ≤ length hs → (0 < v → chain_at hs (v - 1) ≡ bucket_of_value s) → ((j : ℕ) → v ≤ j → j < length hs → ¬ (name_at hs j ≡ s)) → Walk m s v a → Has hs s a
   walk_has h c n (ended l) = has_not (λ k i. n k (omega arith) i)
@@ -35,7 +36,7 @@ module _ {m : Memory} {hs : List House} (g : Holds m hs) (s : List ℕ) where
       others q j i k e = ⊎_elim
           (λ b. q.after j i b (ap bucket_of_value e ∙ sym (c l)))
           (λ b. ⊎_elim
-          (λ d. o (subst (λ (x : ℕ). Stands m.names x s) (at_it b d) (subst (Stands m.names j) e (g.stands j k))))
+          (λ d. o (subst (λ (x : ℕ). Stands m.slots x s) (at_it b d) (subst (Stands m.slots j) e (g.stands j k))))
           (λ d. n j d k e)
           (lt_or_ge j v))
           (lt_or_ge j (v - 1))
@@ -55,7 +56,7 @@ module _ {m : Memory} {hs : List House} (g : Holds m hs) (s : List ℕ) where
 
 -- ---- cleared memory holds the empty list
 
-pub cleared_holds : (m : Memory) → Sized m → ((b : ℕ) → b < heads → head_of m.links b ≡ 0) → Holds m []
+pub cleared_holds : (m : Names) → Sized m → ((b : ℕ) → b < heads → head_of m.links b ≡ 0) → Holds m []
 cleared_holds m g z = record {
   sized = g;
   few = omega arith;
@@ -170,7 +171,7 @@ module _ (names : List ℕ) (n : ℕ) (s : List ℕ) (e : length names ≡ most_
 
 -- ---- entering keeps what is held, and adds the name
 
-module _ {m : Memory} {hs : List House} (g : Holds m hs) (s : List ℕ) (z : ℤ) (d : ℕ) (l : length hs < most_lines) (r : length s ≤ most_name) (u : unbias (2 ^ 31) d ≡ z) where
+module _ {m : Names} {hs : List House} (g : Holds m hs) (s : List ℕ) (z : ℤ) (d : ℕ) (l : length hs < most_lines) (r : length s ≤ most_name) (u : unbias (2 ^ 31) d ≡ z) where
   -- what holds of each old line, and of the new one, holds of each line
   each : (P : ℕ → House → Type 0) → ((k : ℕ) → k < length hs → P k (line_at hs k)) → P (length hs) (house s z) → (k : ℕ) → k < length (hs ++ (house s z ∷ [])) → P k (line_at (hs ++ (house s z ∷ [])) k)
   each P o w k h = ⊎_elim
@@ -189,14 +190,14 @@ module _ {m : Memory} {hs : List House} (g : Holds m hs) (s : List ℕ) (z : ℤ
       (sym (other_link m.links (length hs) (bucket_of_value s) d g.sized.links l (bucket_small s) b o (λ x. omega arith) (λ x. omega arith)))
       (other_latest hs (house s z) (λ x. o (sym x)) (g.first b h))
 
-  pub enter_holds : Holds (memory (entered m.names (length hs) s) (linked m.links (length hs) (bucket_of_value s) d)) (hs ++ (house s z ∷ []))
+  pub enter_holds : Holds (memory (entered m.slots (length hs) s) (linked m.links (length hs) (bucket_of_value s) d)) (hs ++ (house s z ∷ []))
   enter_holds = record {
-    sized = record { names = length-set (put m.names (length hs * slot) s) (length hs * slot + most_name) (length s) ∙ length_put m.names (length hs * slot) s (omega (arith, g.sized.names)) ∙ g.sized.names; links = simp length-set g.sized.links };
+    sized = record { names = length-set (put m.slots (length hs * slot) s) (length hs * slot + most_name) (length s) ∙ length_put m.slots (length hs * slot) s (omega (arith, g.sized.names)) ∙ g.sized.names; links = simp length-set g.sized.links };
     few = omega (arith, more hs (house s z));
     short = each (λ (k : ℕ) (x : House). length x.name ≤ most_name) g.short r;
-    stands = each (λ (k : ℕ) (x : House). Stands (entered m.names (length hs) s) k x.name)
-        (λ k h. old_stands m.names (length hs) s g.sized.names l r k h (g.short k h) (g.stands k h))
-        (new_stands m.names (length hs) s g.sized.names l r);
+    stands = each (λ (k : ℕ) (x : House). Stands (entered m.slots (length hs) s) k x.name)
+        (λ k h. old_stands m.slots (length hs) s g.sized.names l r k h (g.short k h) (g.stands k h))
+        (new_stands m.slots (length hs) s g.sized.names l r);
     numbers = each (λ (k : ℕ) (x : House). number_of (linked m.links (length hs) (bucket_of_value s) d) k ≡ x.number)
         (λ k h. ap (unbias (2 ^ 31)) (other_link m.links (length hs) (bucket_of_value s) d g.sized.links l (bucket_small s) (heads + 2 * k + 1) (λ x. omega (arith, bucket_small s)) (λ x. omega arith) (λ x. omega arith)) ∙ g.numbers k h)
         (ap (unbias (2 ^ 31)) (new_number m.links (length hs) (bucket_of_value s) d g.sized.links l (bucket_small s)) ∙ u);

@@ -4,10 +4,11 @@
 
 #![tactic(auto)]
 
-ghost use Rattle.std.specs.Prelude.{◌≡◌, ◌+◌, ◌*◌, ◌<◌, ◌≤◌, length};
+ghost use Rattle.std.specs.Prelude.{◌≡◌, [], ◌+◌, ◌*◌, ◌<◌, ◌≤◌, length};
 ghost use Rattle.whole.specs.Whether.{Whether};
 ghost use Rattle.nametable.specs.Limits.{most_lines, most_name, heads};
-ghost use Rattle.nametable.specs.Promise.{memory, Alike, Stands, Walk, Finds, Enters, entered, linked};
+ghost use Rattle.nametable.specs.Holds.{Holds};
+ghost use Rattle.nametable.specs.Promise.{Alike, Stands, Walk, Finds, Enters, entered, linked};
 ghost use Rattle.nametable.specs.Hash.{FourIs, word_of, mix_of, few_of, many_of, chain_of_value, bucket_of_value};
 
 // The two limits of a catalogue: its lines, and the bytes of a name.
@@ -22,14 +23,15 @@ const SLOT: usize = NAME + 1;
 // one more than the number of a line, or 0.
 const HEADS: usize = 1024;
 
-// The memory that is lent. Cleared memory holds no names.
-pub const NAME_BYTES: usize = LINES * SLOT;
+const NAME_BYTES: usize = LINES * SLOT;
 
-pub const LINK_COUNT: usize = HEADS + 2 * LINES;
+const LINK_COUNT: usize = HEADS + 2 * LINES;
 
-pub type Names = [u8; NAME_BYTES];
-
-pub type Links = [u32; LINK_COUNT];
+// The memory that is lent.
+pub struct Names {
+    pub slots: [u8; NAME_BYTES],
+    pub links: [u32; LINK_COUNT],
+}
 
 // ---- a name as numbers: eight bytes are one load
 
@@ -120,13 +122,13 @@ fn place(x: u32) -> usize
     x as usize
 }
 
-fn same_few(name: &[u8], names: &[u8], from: usize) -> bool
-    requires { from + length name.now ≤ length names.now }
-    ensures { Whether (Alike name.now names.now from) result }
+fn same_few(name: &[u8], slots: &[u8], from: usize) -> bool
+    requires { from + length name.now ≤ length slots.now }
+    ensures { Whether (Alike name.now slots.now from) result }
 {
     let mut i = 0;
     while i < name.len() {
-        if name[i] != names[from + i] {
+        if name[i] != slots[from + i] {
             return false;
         }
         i += 1;
@@ -135,17 +137,17 @@ fn same_few(name: &[u8], names: &[u8], from: usize) -> bool
 }
 
 // The last bytes first, since names often begin alike.
-fn same_many(name: &[u8], names: &[u8], from: usize) -> bool
-    requires { (8 ≤ length name.now) × (from + length name.now ≤ length names.now) }
-    ensures { Whether (Alike name.now names.now from) result }
+fn same_many(name: &[u8], slots: &[u8], from: usize) -> bool
+    requires { (8 ≤ length name.now) × (from + length name.now ≤ length slots.now) }
+    ensures { Whether (Alike name.now slots.now from) result }
 {
     let last = name.len() - 8;
-    if word_at(name, last) != word_at(names, from + last) {
+    if word_at(name, last) != word_at(slots, from + last) {
         return false;
     }
     let mut i: usize = 0;
     while i < last {
-        if word_at(name, i) != word_at(names, from + i) {
+        if word_at(name, i) != word_at(slots, from + i) {
             return false;
         }
         i += 8;
@@ -153,66 +155,31 @@ fn same_many(name: &[u8], names: &[u8], from: usize) -> bool
     true
 }
 
-fn stands(name: &[u8], names: &Names, k: usize) -> bool
+fn stands(name: &[u8], slots: &[u8; NAME_BYTES], k: usize) -> bool
     requires { (length name.now ≤ most_name) × (k < most_lines) }
-    ensures { Whether (Stands names.now k name.now) result }
+    ensures { Whether (Stands slots.now k name.now) result }
 {
     let from = k * SLOT;
-    if size(names[from + NAME]) != name.len() {
+    if size(slots[from + NAME]) != name.len() {
         return false;
     }
     if name.len() < 8 {
-        return same_few(name, names, from);
+        return same_few(name, slots, from);
     }
-    same_many(name, names, from)
+    same_many(name, slots, from)
 }
 
 // ---- finding and entering
 
-// From link to link. A link goes to an earlier line, so that the walk ends; where one does not, which no call here leaves behind, it ends there.
-fn walk(names: &Names, links: &Links, name: &[u8], from: usize) -> Option<i32>
-    requires { (length name.now ≤ most_name) × (from ≤ most_lines) }
-    ensures { Walk (memory names.now links.now) name.now from result }
-{
-    let mut at = from;
-    while 0 < at {
-        let k = at - 1;
-        if stands(name, names, k) {
-            return Some(whole::lowered(links[HEADS + 2 * k + 1]));
-        }
-        let next = place(links[HEADS + 2 * k]);
-        if at <= next {
-            return None;
-        }
-        at = next;
-    }
-    None
-}
-
-// The number of a name.
-pub fn find(names: &Names, links: &Links, name: &[u8]) -> Option<i32>
-    ensures { Finds (memory names.now links.now) name.now result }
-{
-    if NAME < name.len() {
-        return None;
-    }
-    let chain = bucket_of(name);
-    let from = place(links[chain]);
-    if LINES < from {
-        return None;
-    }
-    walk(names, links, name, from)
-}
-
-fn put_name(names: &mut Names, k: usize, name: &[u8])
+fn put_name(slots: &mut [u8; NAME_BYTES], k: usize, name: &[u8])
     requires { (k < most_lines) × (length name.now ≤ most_name) }
-    ensures { names.new ≡ entered names.old k name.now }
+    ensures { slots.new ≡ entered slots.old k name.now }
 {
-    writer::buffer::copy_text(names, k * SLOT, name);
-    names[k * SLOT + NAME] = name.len() as u8;
+    writer::buffer::copy_text(slots, k * SLOT, name);
+    slots[k * SLOT + NAME] = name.len() as u8;
 }
 
-fn link(links: &mut Links, k: usize, chain: usize, number: u32)
+fn link(links: &mut [u32; LINK_COUNT], k: usize, chain: usize, number: u32)
     requires { (k < most_lines) × (chain < heads) }
     ensures { links.new ≡ linked links.old k chain number }
 {
@@ -222,17 +189,64 @@ fn link(links: &mut Links, k: usize, chain: usize, number: u32)
     links[chain] = (k + 1) as u32;
 }
 
-// Enters a name with its number as line k, if there is a slot for it and room in the slot.
-pub fn enter(names: &mut Names, links: &mut Links, k: usize, name: &[u8], number: i32) -> bool
-    ensures { Enters (memory names.old links.old) k name.now number (memory names.new links.new) result }
-{
-    if LINES <= k {
-        return false;
+impl Names {
+    // Cleared memory, which holds no names.
+    pub fn new() -> Names
+        ensures { Holds result [] }
+    {
+        Names {
+            slots: [0; NAME_BYTES],
+            links: [0; LINK_COUNT],
+        }
     }
-    if NAME < name.len() {
-        return false;
+
+    // From link to link. A link goes to an earlier line, so that the walk ends; where one does not, which no call here leaves behind, it ends there.
+    fn walk(&self, name: &[u8], from: usize) -> Option<i32>
+        requires { (length name.now ≤ most_name) × (from ≤ most_lines) }
+        ensures { Walk self.now name.now from result }
+    {
+        let mut at = from;
+        while 0 < at {
+            let k = at - 1;
+            if stands(name, &self.slots, k) {
+                return Some(whole::lowered(self.links[HEADS + 2 * k + 1]));
+            }
+            let next = place(self.links[HEADS + 2 * k]);
+            if at <= next {
+                return None;
+            }
+            at = next;
+        }
+        None
     }
-    put_name(names, k, name);
-    link(links, k, bucket_of(name), whole::raised(number));
-    true
+
+    // The number of a name.
+    pub fn find(&self, name: &[u8]) -> Option<i32>
+        ensures { Finds self.now name.now result }
+    {
+        if NAME < name.len() {
+            return None;
+        }
+        let chain = bucket_of(name);
+        let from = place(self.links[chain]);
+        if LINES < from {
+            return None;
+        }
+        self.walk(name, from)
+    }
+
+    // Enters a name with its number as line k, if there is a slot for it and room in the slot.
+    pub fn enter(&mut self, k: usize, name: &[u8], number: i32) -> bool
+        ensures { Enters self.old k name.now number self.new result }
+    {
+        if LINES <= k {
+            return false;
+        }
+        if NAME < name.len() {
+            return false;
+        }
+        put_name(&mut self.slots, k, name);
+        link(&mut self.links, k, bucket_of(name), whole::raised(number));
+        true
+    }
 }

@@ -7,7 +7,7 @@ use Rattle.catalogueread.specs.Laws.{Leads}
 use Rattle.catalogueread.proofs.read_block.Given as goal
 
 abbrev pub invariant-loop-p : goal.invariant-loop-p
-invariant-loop-p l = Leads l.block (read_state l.initial.p.at (memory l.initial.names l.initial.links) l.initial.p.lines l.initial.line l.initial.p.held) (read_state l.p.at (memory l.names l.links) l.p.lines l.line l.p.held)
+invariant-loop-p l = Leads l.block (read_state l.initial.p.at l.initial.names l.initial.p.lines l.initial.line l.initial.p.held) (read_state l.p.at l.names l.p.lines l.line l.p.held)
 
 abbrev pub decreases-loop-p : goal.decreases-loop-p
 decreases-loop-p l = length l.block - l.p.at

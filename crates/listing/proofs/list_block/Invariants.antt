@@ -8,7 +8,7 @@ use Prim.Native.Nat.{◌-◌}
 use Rattle.listing.proofs.list_block.Given as goal
 
 abbrev pub invariant-loop-p : goal.invariant-loop-p
-invariant-loop-p l = Reaches (NamesIn (memory l.names l.links)) l.block (block_state l.from l.initial.line l.held l.initial.out l.used) (block_state l.p.at l.line l.p.held l.out l.p.used)
+invariant-loop-p l = Reaches (NamesIn l.names) l.block (block_state l.from l.initial.line l.held l.initial.out l.used) (block_state l.p.at l.line l.p.held l.out l.p.used)
 
 abbrev pub decreases-loop-p : goal.decreases-loop-p
 decreases-loop-p l = length l.block - l.p.at

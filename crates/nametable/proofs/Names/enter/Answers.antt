@@ -1,9 +1,9 @@
--- `nametable::enter` meets its promise.
+-- `nametable::Names::enter` meets its promise.
 use Rattle.std.proofs.Common.{◌∙◌, to_z-of_z}
 use Rattle.nametable.specs.Laws.{enters_so}
 use Rattle.nametable.specs.Promise.{no_slot, no_room}
 use mir.Syntax.{w32}
-use Rattle.nametable.proofs.enter.Goals as goal
+use Rattle.nametable.proofs.Names.enter.Goals as goal
 
 pub returns-then-k-ge-LINES : goal.returns-then-k-ge-LINES
 returns-then-k-ge-LINES c = no_slot c.if-k-ge-LINES.true

@@ -1,7 +1,7 @@
--- `nametable::find` meets its promise.
+-- `nametable::Names::find` meets its promise.
 use Rattle.nametable.specs.Laws.{finds_lost, finds_walk}
 use Rattle.nametable.specs.Promise.{too_long}
-use Rattle.nametable.proofs.find.Goals as goal
+use Rattle.nametable.proofs.Names.find.Goals as goal
 
 pub returns-then-name-gt-NAME : goal.returns-then-name-gt-NAME
 returns-then-name-gt-NAME c = too_long c.if-name-gt-NAME.true

@@ -1,0 +1,8 @@
+-- `nametable::Names::new` meets its promise.
+use Rattle.std.proofs.Common.{arith, refl}
+use Rattle.std.proofs.lemmas.List.{get_or-replicate}
+use Rattle.nametable.specs.Theorems.{cleared_holds}
+use Rattle.nametable.proofs.Names.new.Goals as goal
+
+pub returns : goal.returns
+returns c = cleared_holds _ (record { names = refl; links = refl }) (λ b h. get_or-replicate 1152 b 0 0 (omega (arith, h)))
