@@ -24,18 +24,7 @@ pub struct Expected {
 pub fn expected_at(text: &[u8], place: usize) -> Expected
     ensures { Expects (take place text.now) result }
 {
-    if text.len() < place {
-        return expected_after(text);
-    }
-    after_front(text, place)
-}
-
-// The front is lent in a function of its own.
-fn after_front(text: &[u8], end: usize) -> Expected
-    requires { end ≤ length text.now }
-    ensures { Expects (take end text.now) result }
-{
-    expected_after(&text[..end])
+    expected_after(&text[..place.min(text.len())])
 }
 
 fn expected_after(front: &[u8]) -> Expected

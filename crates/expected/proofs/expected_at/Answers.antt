@@ -1,11 +1,11 @@
--- `expected::expected_at` meets its promise.
-use Prim.Native.Nat.{ℕ}
-use mathlib.Core.Path.{sym, subst}
-use mathlib.Core.List.{List}
-use native.Mathlib.Omega.{arith}
-use lib.Seq.{take_all}
+-- `expected::expected_at` meets its promise: the bytes before the lesser of the place and the end are those before the place.
+use Rattle.std.specs.Prelude.{ℕ, List, take}
+use mathlib.Core.Path.{subst, ap, ◌∙◌}
+use Rattle.std.proofs.lemmas.List.{take_min}
 use Rattle.expected.specs.Promise.{Expects}
 use Rattle.expected.proofs.expected_at.Goals as goal
 
-pub returns-then-text-place : goal.returns-then-text-place
-returns-then-text-place c = subst (λ (u : List ℕ). Expects u c.expected_after.result) (sym (take_all c.args.place _ (omega (arith, c.if-text-place.true)))) c.expected_after.ensures
+pub returns : goal.returns
+returns c =
+    let s = c.args.text.now in
+    subst (λ (u : List ℕ). Expects u c.expected_after.result) (ap (λ (k : ℕ). take k s) c.min.ensures ∙ take_min c.args.place s) c.expected_after.ensures
