@@ -1,6 +1,7 @@
 -- From what the private functions say to the promises.
 -- Assumes nothing.
-use Rattle.std.specs.Prelude.{◌≡◌, refl, Bool, true, false, ◌⊎◌, ℕ, ◌+◌, ◌-◌, ◌<◌, ◌≤◌, ◌^◌, ℤ, ◌≤ℤ◌, Result, Ok, Err}
+use Rattle.std.specs.Prelude.{◌≡◌, refl, Bool, ◌⊎◌, ℕ, ◌+◌, ◌-◌, ◌<◌, ◌≤◌, ◌^◌, ℤ, ◌≤ℤ◌, Result, Ok, Err}
+use Rattle.std.specs.Result.{is_ok}
 use Rattle.std.proofs.Common.{sym, ◌∙◌, ap, subst, subst₂, inl, inr, ⊎_elim, arith, add-one, lt-ltb, le-ltb}
 use Rattle.whole.specs.Tests.{lt_or_ge}
 use Rattle.whole.specs.Integers.{unbias_le}
@@ -22,6 +23,8 @@ use Rattle.refusals.specs.declared.Refusal.{Refusal}
 use Rattle.calendar.specs.Calendars.{definition_of, labels}
 use Rattle.calendar.specs.Rows.{refuses, passes}
 use Rattle.calendar.specs.Promise.{Given, AtYmd, on_label}
+use Rattle.calendar.specs.Natural as C
+use Rattle.calendar.specs.Natural.{SwitchIs}
 use Rattle.calendar.specs.Laws.{found_label, label_row, refused_row, refused_nowhere}
 use Rattle.switches.specs.declared.MonthSpan.{MonthSpan}
 use Rattle.inner.specs.declared.Spot.{Spot}
@@ -146,9 +149,12 @@ pub span_made : (c : Calendar) {z : ℤ} {r y m : ℕ} {s : Result MonthSpan Ref
 span_made c {y = y} runs h e (S.spans_month v) = spanned (record { y = y; runs = runs; year_biased = h; year_is = e; is_month = v; span = refl })
 span_made c runs h e (S.no_month n) = no_month runs.accepted n
 
-pub span_refused : {A : Type 0} {c : Calendar} {z : ℤ} {m : ℕ} {f : Refusal} (refused : Refusal → A) {Below : A → Type 0} → Spans c z m (Err f) → OfAMonth c m refused Below (refused f)
-span_refused refused (no_calendar n) = refuses n
-span_refused refused (no_month a n) = passes a (refuses n)
+pub span_made_up : (c : Calendar) {z : ℤ} {m : ℕ} {e : Refusal} → SwitchIs c (Err e) → Spans c z m (Err e)
+span_made_up c (C.no_calendar n) = no_calendar n
+
+pub span_refused : {A : Type 0} {c : Calendar} {z : ℤ} {m : ℕ} {f : Refusal} {Below : Result A Refusal → Type 0} → Spans c z m (Err f) → OfAMonth c m Below (Err f)
+span_refused (no_calendar n) = refuses n
+span_refused (no_month a n) = passes a (refuses n)
 
 module _ (c : Calendar) {z : ℤ} {m : ℕ} (s : MonthSpan) (p : SpanOf c z m s) where
   first_is : s.first ≡ month_first_value s.switch p.y m
@@ -165,8 +171,8 @@ module _ (c : Calendar) {z : ℤ} {m : ℕ} (s : MonthSpan) (p : SpanOf c z m s)
       (subst₂ (λ (a b : ℕ). Stretch (labels c) (OfMonth (year p.y) m) day_bias a b) (sym first_is) (sym past_is)
       (month_stretch p.runs p.y p.year_biased m p.is_month.0 p.is_month.1))
 
-  pub month_row : {A : Type 0} (refused : Refusal → A) {Below : A → Type 0} {a : A} → Below a → OfAMonth c m refused Below a
-  month_row refused b = passes p.runs.accepted (passes p.is_month b)
+  pub month_row : {A : Type 0} {Below : Result A Refusal → Type 0} {a : Result A Refusal} → Below a → OfAMonth c m Below a
+  month_row b = passes p.runs.accepted (passes p.is_month b)
 
   pub span_ordered : s.first ≤ s.past
   span_ordered = month_days.ordered
@@ -220,7 +226,7 @@ module _ (c : Calendar) {z : ℤ} {m : ℕ} (s : MonthSpan) (p : SpanOf c z m s)
 
   -- ---- lengths, and the first and the last day
   pub len_row : Len c z m (Ok (s.past - s.first))
-  len_row = month_row Err (P.number month_days.days)
+  len_row = month_row (P.number month_days.days)
 
   no_days : s.past ≤ s.first → P.NoDay (labels c) z m
   no_days h n o = let (k, e, a, b) = month_days.only n o in never k a b h
@@ -229,29 +235,30 @@ module _ (c : Calendar) {z : ℤ} {m : ℕ} (s : MonthSpan) (p : SpanOf c z m s)
       never k a b h = omega arith
 
   pub first_none : s.past ≤ s.first → FirstDayOf c z m (Ok 0)
-  first_none h = month_row Err (P.number (no_first (no_days h)))
+  first_none h = month_row (P.number (no_first (no_days h)))
 
   pub last_none : s.past ≤ s.first → LastDayOf c z m (Ok 0)
-  last_none h = month_row Err (P.number (no_last (no_days h)))
+  last_none h = month_row (P.number (no_last (no_days h)))
 
   pub first_row : {d : ℕ} → s.first < s.past → d ≡ day_in_value s s.first → FirstDayOf c z m (Ok d)
-  first_row h e = month_row Err (P.number (first (label_in s.first (omega arith) h ∙ ap (label z m) (sym e))
+  first_row h e = month_row (P.number (first (label_in s.first (omega arith) h ∙ ap (label z m) (sym e))
       (λ n o. let (k, w, a, b) = month_days.only n o in subst (λ (n : ℤ). day s.first ≤ℤ n) (sym w) (unbias_le day_bias s.first k a))))
 
   pub last_row : {d : ℕ} → s.first < s.past → d ≡ day_in_value s (s.past - 1) → LastDayOf c z m (Ok d)
-  last_row h e = month_row Err (P.number (last (label_in (s.past - 1) (omega arith) (omega arith) ∙ ap (label z m) (sym e))
+  last_row h e = month_row (P.number (last (label_in (s.past - 1) (omega arith) (omega arith) ∙ ap (label z m) (sym e))
       (λ n o. let (k, w, a, b) = month_days.only n o in subst (λ (n : ℤ). n ≤ℤ day (s.past - 1)) (sym w) (unbias_le day_bias k (s.past - 1) (omega arith)))))
 
   -- ---- a label of the month
   module _ {x d : ℕ} (h : BiasedYear (biased_year_value x)) (e : year (biased_year_value x) ≡ z) where
-    pub borne_row : {i : Spot} → Finds s.switch x m d (Ok i) → Contains c z m d (Ok true)
-    borne_row {i} f = month_row Err (borne (day i.biased, found_label c p.runs h e f))
+    bears : (f : Result Spot Refusal) → Finds s.switch x m d f → P.Bears (labels c) (label z m d) (Ok (is_ok f))
+    bears (Ok i) f = borne (day i.biased, found_label c p.runs h e f)
+    bears (Err r) f = not_borne (refused_nowhere c p.runs h e f)
 
-    pub nowhere_row : {r : Refusal} → Finds s.switch x m d (Err r) → Contains c z m d (Ok false)
-    nowhere_row f = month_row Err (not_borne (refused_nowhere c p.runs h e f))
+    pub contains_row : {f : Result Spot Refusal} {b : Bool} → Finds s.switch x m d f → b ≡ is_ok f → Contains c z m d (Ok b)
+    contains_row {f} p q = rw q (month_row (bears f p))
 
     pub refused_place : {r : Refusal} → Finds s.switch x m d (Err r) → DayOrdinalOf c z m d (Err r)
-    refused_place f = month_row Err (refused_row c p.runs h e Err f)
+    refused_place f = month_row (refused_row c p.runs h e Err f)
 
     module _ {i : Spot} (f : Finds s.switch x m d (Ok i)) where
       found_place : (s.first ≤ i.biased) × (i.biased < s.past) × Place (λ n. OfMonth z m (labels c n)) (day i.biased) (i.biased + 1 - s.first)
@@ -270,13 +277,13 @@ module _ (c : Calendar) {z : ℤ} {m : ℕ} (s : MonthSpan) (p : SpanOf c z m s)
       pub place_row : DayOrdinalOf c z m d (Ok (i.biased + 1 - s.first))
       place_row =
           let l : labels c (day i.biased) ≡ label z m d = found_label c p.runs h e f in
-          month_row Err (label_row c p.runs h e Err f
+          month_row (label_row c p.runs h e Err f
           (P.number (day i.biased, l, subst (λ (l : Label). Place (λ n. OfMonth l.year l.month (labels c n)) (day i.biased) (i.biased + 1 - s.first)) (sym l) found_place.2)))
 
   -- ---- the k-th day
   module _ (k : ℕ) where
     off_by : ((k ≡ 0) ⊎ (s.past - s.first < k)) → NthDay c z m k (refused_number 21 k)
-    off_by n = month_row Err (refuses (s.past - s.first, month_days.days, n))
+    off_by n = month_row (refuses (s.past - s.first, month_days.days, n))
 
     pub off_low : k < 1 → NthDay c z m k (refused_number 21 k)
     off_low h = off_by (inl (omega arith))
@@ -288,7 +295,7 @@ module _ (c : Calendar) {z : ℤ} {m : ℕ} (s : MonthSpan) (p : SpanOf c z m s)
     nth_row u v e =
         let a : s.first ≤ s.first + k - 1 = omega arith in
         let o = month_days.inside (s.first + k - 1) a v in
-        month_row Err (passes not_off (P.number (
+        month_row (passes not_off (P.number (
           day (s.first + k - 1),
           record { of_month = o; place = subst (Place (λ n. OfMonth z m (labels c n)) (day (s.first + k - 1))) (back s.first u) (month_days.here (s.first + k - 1) o).2 },
           label_in (s.first + k - 1) a v ∙ ap (label z m) (sym e),

@@ -1,6 +1,6 @@
 -- Two results that a promise allows for one input are equal: a theorem for each promise.
 -- Assumes nothing.
-use Rattle.std.specs.Prelude.{◌≡◌, refl, ℕ, ℤ, Ok, Err}
+use Rattle.std.specs.Prelude.{◌≡◌, refl, ℕ, ℤ, Result, Ok}
 use Rattle.std.proofs.Common.{sym, ◌∙◌, ap, ap₂, subst}
 use Rattle.whole.specs.Biased.{unbias_injective}
 use Rattle.whole.specs.Integers.{antisym}
@@ -23,15 +23,15 @@ use Rattle.months.specs.Natural.{Spans, spanned, no_calendar, no_month}
 number_one : {P : ℕ → Type 0} → ((k l : ℕ) → P k → P l → k ≡ l) → One (Number P)
 number_one same a b (number {k} p) (number {k = l} q) = ap Ok (same k l p q)
 
-of_a_month_one : {A : Type 0} (c : Calendar) (m : ℕ) (refused : Refusal → A) {Below : A → Type 0} → (Accepted c → One Below) → One (OfAMonth c m refused Below)
-of_a_month_one c m refused below = unless_one (λ a. unless_one (λ v. below a))
+of_a_month_one : {A : Type 0} (c : Calendar) (m : ℕ) {Below : Result A Refusal → Type 0} → (Accepted c → One Below) → One (OfAMonth c m Below)
+of_a_month_one c m below = unless_one (λ a. unless_one (λ v. below a))
 
 -- ---- Lengths
 pub year_length_one : (c : Calendar) (y : ℤ) → One (YearLengthOf c y)
 year_length_one c y = unless_one (λ a. number_one (λ k l. days_one))
 
 pub len_one : (c : Calendar) (y : ℤ) (m : ℕ) → One (Len c y m)
-len_one c y m = of_a_month_one c m Err (λ a. number_one (λ k l. days_one))
+len_one c y m = of_a_month_one c m (λ a. number_one (λ k l. days_one))
 
 -- ---- The first and the last day
 -- a label of the month
@@ -64,10 +64,10 @@ pub nth_label_one : (f : ℤ → Label) (y : ℤ) (m k d e : ℕ) → NthLabel f
 nth_label_one f y m k d e (n, p, u) (i, q, v) = same_day (ap f (is_nth_one p q)) u v
 
 pub first_day_one : (c : Calendar) (y : ℤ) (m : ℕ) → One (FirstDayOf c y m)
-first_day_one c y m = of_a_month_one c m Err (λ a. number_one first_one)
+first_day_one c y m = of_a_month_one c m (λ a. number_one first_one)
 
 pub last_day_one : (c : Calendar) (y : ℤ) (m : ℕ) → One (LastDayOf c y m)
-last_day_one c y m = of_a_month_one c m Err (λ a. number_one last_one)
+last_day_one c y m = of_a_month_one c m (λ a. number_one last_one)
 
 -- ---- A day of the month
 bears_one : (f : ℤ → Label) (l : Label) → One (Bears f l)
@@ -77,23 +77,23 @@ bears_one f l a b (not_borne p) (borne q) = absurd (p q)
 bears_one f l a b (not_borne p) (not_borne q) = refl
 
 pub contains_one : (c : Calendar) (y : ℤ) (m d : ℕ) → One (Contains c y m d)
-contains_one c y m d = of_a_month_one c m Err (λ a. bears_one (labels c) (label y m d))
+contains_one c y m d = of_a_month_one c m (λ a. bears_one (labels c) (label y m d))
 
 pub place_of_one : {f : ℤ → Label} {l : Label} → Rises f → (j k : ℕ) → PlaceOf f l j → PlaceOf f l k → j ≡ k
 place_of_one {f} up j k (n, e, p) (i, g, q) = place_one p (subst (λ (z : ℤ). DayOrdinal f z k) (once up (g ∙ sym e)) q)
 
 pub day_ordinal_one : (c : Calendar) (y : ℤ) (m d : ℕ) → One (DayOrdinalOf c y m d)
-day_ordinal_one c y m d = of_a_month_one c m Err (λ a. if_one (λ n. if_one (λ s. number_one (place_of_one (accepted_rises a)))))
+day_ordinal_one c y m d = of_a_month_one c m (λ a. if_one (λ n. if_one (λ s. number_one (place_of_one (accepted_rises a)))))
 
 -- ---- The k-th day of a month
 pub nth_day_one : (c : Calendar) (y : ℤ) (m k : ℕ) → One (NthDay c y m k)
-nth_day_one c y m k = of_a_month_one c m Err (λ a. if_one (λ n. number_one (nth_label_one (labels c) y m k)))
+nth_day_one c y m k = of_a_month_one c m (λ a. if_one (λ n. number_one (nth_label_one (labels c) y m k)))
 
 nth_record_one : (c : Calendar) (y : ℤ) (m k : ℕ) → One (NthRecord c y m k)
 nth_record_one c y m k a b (nth_record {n} p g) (nth_record q h) = given_one c y n a b g (subst (λ (i : ℤ). Given c y i b) (is_nth_one q p) h)
 
 pub nth_date_one : (c : Calendar) (y : ℤ) (m k : ℕ) → One (NthDate c y m k)
-nth_date_one c y m k = of_a_month_one c m Err (λ a. if_one (λ n. nth_record_one c y m k))
+nth_date_one c y m k = of_a_month_one c m (λ a. if_one (λ n. nth_record_one c y m k))
 
 -- ---- The run of days of a month
 pub spans_one : (c : Calendar) (y : ℤ) (m : ℕ) → One (Spans c y m)

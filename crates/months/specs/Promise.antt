@@ -17,8 +17,8 @@ pub data Number (P : ℕ → Type 0) : Result ℕ Refusal → Type 0 where
   number : {k : ℕ} → P k → Number P (Ok k)
 
 -- a question of a month: 16, 3, and then the rows below
-abbrev pub OfAMonth : {A : Type 0} → Calendar → ℕ → (Refusal → A) → (A → Type 0) → A → Type 0
-OfAMonth c m refused Below = Unless (Accepted c) (refused made_up) (Unless (Month m) (refused (refusal 3 (pos m))) Below)
+abbrev pub OfAMonth : {A : Type 0} → Calendar → ℕ → (Result A Refusal → Type 0) → Result A Refusal → Type 0
+OfAMonth c m Below = Unless (Accepted c) (Err made_up) (Unless (Month m) (Err (refusal 3 (pos m))) Below)
 
 -- ---- Lengths
 
@@ -28,7 +28,7 @@ YearLengthOf c y = Unless (Accepted c) (Err made_up) (Number (YearLength (labels
 
 -- len: 16, 3, or the number of days of the month
 abbrev pub Len : Calendar → ℤ → ℕ → Result ℕ Refusal → Type 0
-Len c y m = OfAMonth c m Err (Number (MonthLength (labels c) y m))
+Len c y m = OfAMonth c m (Number (MonthLength (labels c) y m))
 
 -- ---- The first and the last day
 
@@ -48,10 +48,10 @@ pub data LastDay (f : ℤ → Label) (y : ℤ) (m : ℕ) : ℕ → Type 0 where
 
 -- first_day, last_day: 16, 3, or the day of the month
 abbrev pub FirstDayOf : Calendar → ℤ → ℕ → Result ℕ Refusal → Type 0
-FirstDayOf c y m = OfAMonth c m Err (Number (FirstDay (labels c) y m))
+FirstDayOf c y m = OfAMonth c m (Number (FirstDay (labels c) y m))
 
 abbrev pub LastDayOf : Calendar → ℤ → ℕ → Result ℕ Refusal → Type 0
-LastDayOf c y m = OfAMonth c m Err (Number (LastDay (labels c) y m))
+LastDayOf c y m = OfAMonth c m (Number (LastDay (labels c) y m))
 
 -- ---- A day of the month
 
@@ -62,7 +62,7 @@ pub data Bears (f : ℤ → Label) (l : Label) : Result Bool Refusal → Type 0 
 
 -- contains: 16, 3, or the answer
 abbrev pub Contains : Calendar → ℤ → ℕ → ℕ → Result Bool Refusal → Type 0
-Contains c y m d = OfAMonth c m Err (Bears (labels c) (label y m d))
+Contains c y m d = OfAMonth c m (Bears (labels c) (label y m d))
 
 -- the day that bears the label has the place k among the days of its month
 abbrev pub PlaceOf : (ℤ → Label) → Label → ℕ → Type 0
@@ -70,7 +70,7 @@ PlaceOf f l k = (n : ℤ) × (f n ≡ l) × DayOrdinal f n k
 
 -- day_ordinal: 16, 3, 4, 5, or the place
 abbrev pub DayOrdinalOf : Calendar → ℤ → ℕ → ℕ → Result ℕ Refusal → Type 0
-DayOrdinalOf c y m d = OfAMonth c m Err (OfALabel c y m d Err (Number (PlaceOf (labels c) (label y m d))))
+DayOrdinalOf c y m d = OfAMonth c m (OfALabel c y m d Err (Number (PlaceOf (labels c) (label y m d))))
 
 -- ---- The k-th day of a month
 
@@ -89,7 +89,7 @@ NthLabel f y m k d = (n : ℤ) × IsNth f y m k n × (f n ≡ label y m d)
 
 -- nth_day: 16, 3, 21, or the day of the month
 abbrev pub NthDay : Calendar → ℤ → ℕ → ℕ → Result ℕ Refusal → Type 0
-NthDay c y m k = OfAMonth c m Err (If (OffMonth c y m k) (refused_number 21 k) (Number (NthLabel (labels c) y m k)))
+NthDay c y m k = OfAMonth c m (If (OffMonth c y m k) (refused_number 21 k) (Number (NthLabel (labels c) y m k)))
 
 -- its record
 pub data NthRecord (c : Calendar) (y : ℤ) (m k : ℕ) : Result Date Refusal → Type 0 where
@@ -97,4 +97,4 @@ pub data NthRecord (c : Calendar) (y : ℤ) (m k : ℕ) : Result Date Refusal �
 
 -- nth_date: 16, 3, 21, 7, or the record
 abbrev pub NthDate : Calendar → ℤ → ℕ → ℕ → Result Date Refusal → Type 0
-NthDate c y m k = OfAMonth c m Err (If (OffMonth c y m k) (refused 21 (pos k)) (NthRecord c y m k))
+NthDate c y m k = OfAMonth c m (If (OffMonth c y m k) (refused 21 (pos k)) (NthRecord c y m k))

@@ -232,11 +232,10 @@ fourth_borne : Borne (labels Gregorian) (label (pos 5_874_898) 6 4)
 fourth_borne = (pos 2_147_483_648, fourth_label)
 
 -- the rows that a date which a day bears passes
-borne : {A : Type 0} (refused : Refusal → A) {r : A} {Below : A → Type 0} → Below r
-    → OfAMonth Gregorian 6 refused (OfALabel Gregorian (pos 5_874_898) 6 4 refused Below) r
-borne refused p = passes gregorian_accepted (passes (omega arith, omega arith) (passes (λ i. i.0 fourth_borne) (passes (λ s. skipped_nowhere gregorian_accepted s fourth_borne) p)))
+borne : {A : Type 0} {r : Result A Refusal} {Below : Result A Refusal → Type 0} → Below r → OfAMonth Gregorian 6 (OfALabel Gregorian (pos 5_874_898) 6 4 Err Below) r
+borne p = passes gregorian_accepted (passes (omega arith, omega arith) (passes (λ i. i.0 fourth_borne) (passes (λ s. skipped_nowhere gregorian_accepted s fourth_borne) p)))
 
 pub fourth_of_june : {a : Result Date Refusal} → NthDate Gregorian (pos 5_874_898) 6 4 a → a ≡ refused 7 (pos 5_874_898)
 fourth_of_june {a} h =
     at_ymd_one Gregorian (pos 5_874_898) 6 4 a (refused 7 (pos 5_874_898))
-    (date_of_place Gregorian (pos 5_874_898) 6 (borne Err (number (pos 2_147_483_648, fourth_label, fourth_place))) h) (borne Err (on_label fourth_label (refuses past_32_bits)))
+    (date_of_place Gregorian (pos 5_874_898) 6 (borne (number (pos 2_147_483_648, fourth_label, fourth_place))) h) (borne (on_label fourth_label (refuses past_32_bits)))
