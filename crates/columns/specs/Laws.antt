@@ -1,5 +1,5 @@
 -- Why a line and the header are what was promised.
-use Rattle.std.specs.Prelude.{ℕ, ◌≡◌, List, length, ℤ, pos, Ok, Err, Some, None}
+use Rattle.std.specs.Prelude.{ℕ, ◌≡◌, List, length, ℤ, pos, Option, Some, None, ok_or}
 use Rattle.std.proofs.Common.{sym}
 use Rattle.days.specs.DayByDay.{weekday}
 use Rattle.calendar.specs.declared.Date.{Date}
@@ -15,8 +15,6 @@ pub numbers_are : (d : Date) {j y : ℤ} {w v : ℕ} → j ≡ d.jdn → y ≡ d
     → ◌≡◌ {A = LineNumbers} (record { jdn = j; year = y; ordinal = d.ordinal; month = d.month; day = d.day; weekday = w; style = v }) (numbers_of_value d)
 numbers_are d e f g h = cc
 
-pub header_wrote : {t b : List ℕ} {at : ℕ} {b' : List ℕ} {i : ℕ} → t ≡ header → Copies t b at b' (Some i) → PutsHeader b at b' (Ok i)
-header_wrote e (copied h) = Writes.writes e (Puts.done h)
-
-pub header_left : {t b : List ℕ} {at : ℕ} {b' : List ℕ} {f : Refusal} → t ≡ header → length t ≡ 41 → Copies t b at b' None → f ≡ textRefusal 18 0 (pos 41) → PutsHeader b at b' (Err f)
-header_left {t} e k (no_room h) g = left_alone t e (sym k) h g
+pub header_put : {t b : List ℕ} {at : ℕ} {b' : List ℕ} {f : Refusal} → t ≡ header → length t ≡ 41 → (o : Option ℕ) → Copies t b at b' o → f ≡ textRefusal 18 0 (pos 41) → PutsHeader b at b' (ok_or o f)
+header_put e k (Some i) (copied h) g = Writes.writes e (Puts.done h)
+header_put {t} e k None (no_room h) g = left_alone t e (sym k) h g

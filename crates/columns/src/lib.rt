@@ -9,8 +9,8 @@ ghost use Rattle.columns.specs.Promise.{PutsHeader};
 
 use calendar::{Date, Style};
 use linetext::LineNumbers;
-use writer::buffer;
 use refusals::Refusal;
+use writer::buffer;
 
 // The letters of a style, `OS`, `NS` and `SV`: the first, and 256 times the second.
 fn style_letters(style: Style) -> u64
@@ -45,10 +45,7 @@ fn numbers_of(date: Date) -> LineNumbers
 pub fn line_of(answer: Result<Date, Refusal>) -> Result<LineNumbers, Refusal>
     ensures { result ≡ line_of answer }
 {
-    match answer {
-        Ok(date) => Ok(numbers_of(date)),
-        Err(why) => Err(why),
-    }
+    answer.map(numbers_of)
 }
 
 const HEADER: [u8; 41] = *b"jdn\tyear\tordinal\tmonth\tday\tweekday\tstyle\n";
@@ -57,8 +54,5 @@ const HEADER: [u8; 41] = *b"jdn\tyear\tordinal\tmonth\tday\tweekday\tstyle\n";
 pub fn put_header(out: &mut [u8], at: usize) -> Result<usize, Refusal>
     ensures { PutsHeader out.old at out.new result }
 {
-    match buffer::copy_text(out, at, &HEADER) {
-        Some(end) => Ok(end),
-        None => Err(refusals::refusal_with(18, 41)),
-    }
+    buffer::copy_text(out, at, &HEADER).ok_or(refusals::refusal_with(18, 41))
 }

@@ -1,5 +1,6 @@
 -- Numbers written one after another into a lent buffer, and a whole line of them.
-use Rattle.std.specs.Prelude.{ℕ, suc, ◌+◌, ◌-◌, ◌*◌, ◌/◌, ◌%◌, ◌≤◌, ◌<◌, ◌^◌, ◌≡◌, refl, Bool, true, false, List, [], ◌∷◌, ◌++◌, length, take, drop, ℤ, pos, nat_abs, Result, Ok, Err, Some, None}
+use Rattle.std.specs.Prelude.{ℕ, suc, ◌+◌, ◌-◌, ◌*◌, ◌/◌, ◌%◌, ◌≤◌, ◌<◌, ◌^◌, ◌≡◌, refl, Bool, true, false, List, [], ◌∷◌, ◌++◌, length, take, drop, ℤ, pos, nat_abs, Result, Ok, Err, Option, Some, None, ok_or}
+use Rattle.std.specs.Result.{result_unwrap_or}
 use Rattle.std.proofs.Common.{sym, ◌∙◌, ap, ap₂, subst, append_assoc, arith, length-append, take_at}
 use Rattle.whole.specs.Promise.{is_negative_value}
 use Rattle.refusals.specs.Promise.{refusal}
@@ -12,7 +13,6 @@ use Rattle.linetext.specs.Line.{longest_line, mark, Columns, letters, number_col
 use Rattle.whole.specs.Text.{newline, tab}
 use Rattle.linetext.specs.Promise.{LineOut}
 use Rattle.linetext.specs.declared.LineNumbers.{LineNumbers}
-use Rattle.datetext.specs.declared.Text.{Text}
 
 -- ---- a text of at most m bytes, as IsText says, stands in the buffer from `at` on, and every other byte is as it was; i is the offset after it
 
@@ -137,18 +137,23 @@ put_eight {n} h l t s = text_as (text_then t (put_text {P = λ (v : List ℕ). v
 
 -- a number that was put with room for twenty digits
 module _ {n : ℕ} {b : List ℕ} {at : ℕ} (fits : n < 2 ^ 64) where
-  pub large_done : {b' : List ℕ} {i : ℕ} → Writes (Signs false n) b at b' (Ok i) → Text (Signs false n) 20 b at b' i
+  large_done : {b' : List ℕ} {i : ℕ} → Writes (Signs false n) b at b' (Ok i) → Text (Signs false n) 20 b at b' i
   large_done (Writes.writes (Signs.signs {k} w) p) = by p
     where
       by : {c : List ℕ} {j : ℕ} → Puts (digits_of k n) b at c (Ok j) → Text (Signs false n) 20 b at c j
       by (Puts.done h) =
           record { text = digits_of k n; is = Signs.signs w; short = omega (arith, length_digits k n, width_few w fits); put = record { is = refl; offset = refl } }
 
-  pub large_never : {b' : List ℕ} {f : Refusal} → at + 20 ≤ length b → Writes (Signs false n) b at b' (Err f) → ⊥
+  large_never : {b' : List ℕ} {f : Refusal} → at + 20 ≤ length b → Writes (Signs false n) b at b' (Err f) → ⊥
   large_never {b'} {f} h (Writes.writes (Signs.signs {k} w) p) = by p
     where
       by : {c : List ℕ} {g : Refusal} → Puts (digits_of k n) b at c (Err g) → ⊥
       by (Puts.short l) = omega (arith, length_digits k n, width_few w fits)
+
+  -- so the answer's place is the end of the digits
+  pub large_put : (r : Result ℕ Refusal) {b' : List ℕ} → at + 20 ≤ length b → Writes (Signs false n) b at b' r → Text (Signs false n) 20 b at b' (result_unwrap_or r at)
+  large_put (Ok i) h w = large_done w
+  large_put (Err f) h w = absurd (large_never h w)
 
 -- a sign, and the digits
 pub put_minus : {neg : Bool} {n : ℕ} {b : List ℕ} {at : ℕ} {b₁ b₂ : List ℕ} {i j : ℕ} → neg ≡ true → at + 21 ≤ length b → PutText b at (dash ∷ []) b₁ i → Text (Signs false n) 20 b₁ i b₂ j → Text (Signs neg n) 21 b at b₂ j
@@ -268,17 +273,21 @@ module _ {P : List ℕ → Type 0} {m : ℕ} {z z' : List ℕ} {n : ℕ} (t : Te
   apart_part = apart_long ∙ sym (ap length apart_is)
 
   -- it has room, and was copied; or it has not
-  pub apart_done : {b : List ℕ} {at : ℕ} {b' : List ℕ} {i : ℕ} → Copies (take n z') b at b' (Some i) → Writes P b at b' (Ok i)
+  apart_done : {b : List ℕ} {at : ℕ} {b' : List ℕ} {i : ℕ} → Copies (take n z') b at b' (Some i) → Writes P b at b' (Ok i)
   apart_done {b} {at} {b'} {i} c = by (subst (λ (u : List ℕ). Copies u b at b' (Some i)) apart_is c)
     where
       by : {c : List ℕ} {j : ℕ} → Copies t.text b at c (Some j) → Writes P b at c (Ok j)
       by (copied h) = Writes.writes t.is (Puts.done h)
 
-  pub apart_left : {b : List ℕ} {at : ℕ} {b' : List ℕ} {f : Refusal} → Copies (take n z') b at b' None → f ≡ refusal 18 0 (pos n) → Writes P b at b' (Err f)
+  apart_left : {b : List ℕ} {at : ℕ} {b' : List ℕ} {f : Refusal} → Copies (take n z') b at b' None → f ≡ refusal 18 0 (pos n) → Writes P b at b' (Err f)
   apart_left {b} {at} {b'} {f} c g = by (subst (λ (u : List ℕ). Copies u b at b' None) apart_is c)
     where
       by : {c : List ℕ} → Copies t.text b at c None → Writes P b at c (Err f)
       by (no_room h) = left_alone t.text t.is apart_long h g
+
+  pub apart_put : (o : Option ℕ) {b : List ℕ} {at : ℕ} {b' : List ℕ} {f : Refusal} → Copies (take n z') b at b' o → f ≡ refusal 18 0 (pos n) → Writes P b at b' (ok_or o f)
+  apart_put (Some i) c e = apart_done c
+  apart_put None c e = apart_left c e
 
 pub text_wrote : {P : List ℕ → Type 0} {m : ℕ} {b : List ℕ} {at : ℕ} {b' : List ℕ} {i : ℕ} → at + m ≤ length b → Text P m b at b' i → Writes P b at b' (Ok i)
 text_wrote h t = wrote t.is (omega (arith, t.short)) t.put

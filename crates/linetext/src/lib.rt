@@ -98,10 +98,7 @@ fn put_large(out: &mut [u8], at: usize, n: u64) -> usize
     requires { at + 20 ≤ length out.old }
     ensures { Text (Signs false n) 20 out.old at out.new result }
 {
-    match writer::put_at(out, at, false, n) {
-        Ok(next) => next,
-        Err(_) => at,
-    }
+    writer::put_at(out, at, false, n).unwrap_or(at)
 }
 
 // Most numbers of a listing have fewer than nine digits.
@@ -260,19 +257,24 @@ fn put_either(out: &mut [u8], at: usize, line: Result<LineNumbers, Refusal>) -> 
 // ---- a line with or without room for it
 
 // Where there may be no room, the text is made in a buffer of its own first, so that a buffer too short for it stays as it was.
-fn put_apart(out: &mut [u8], at: usize, line: Result<LineNumbers, Refusal>) -> Result<usize, Refusal>
+fn put_apart(
+    out: &mut [u8],
+    at: usize,
+    line: Result<LineNumbers, Refusal>,
+) -> Result<usize, Refusal>
     ensures { Writes (LineOut line) out.old at out.new result }
 {
     let mut apart = [0u8; LONGEST_LINE];
     let size = put_either(&mut apart, 0, line);
-    match buffer::copy_text(out, at, &apart[..size]) {
-        Some(end) => Ok(end),
-        None => Err(refusals::refusal_with(18, size as u32)),
-    }
+    buffer::copy_text(out, at, &apart[..size]).ok_or(refusals::refusal_with(18, size as u32))
 }
 
 // The line, with its newline.
-pub fn put_line(out: &mut [u8], at: usize, line: Result<LineNumbers, Refusal>) -> Result<usize, Refusal>
+pub fn put_line(
+    out: &mut [u8],
+    at: usize,
+    line: Result<LineNumbers, Refusal>,
+) -> Result<usize, Refusal>
     ensures { Writes (LineOut line) out.old at out.new result }
 {
     if buffer::has_room(out.len(), at, LONGEST_LINE) {

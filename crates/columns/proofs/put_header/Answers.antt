@@ -1,14 +1,10 @@
 -- `columns::put_header` meets its promise: its bytes are those of the header.
-use Rattle.columns.specs.Laws.{header_wrote, header_left}
+use Rattle.columns.specs.Laws.{header_put}
 use mathlib.Core.Path.{refl}
 use Rattle.columns.specs.Columns.{header}
 use Rattle.whole.specs.Text.{bytes}
 use Rattle.columns.proofs.put_header.Goals as goal
 
-pub returns-in-Some : goal.returns-in-Some
+pub returns : goal.returns
 unfolding header bytes
-returns-in-Some c = header_wrote refl (rw c.in-Some.is at c.copy_text.ensures)
-
-pub returns-in-None : goal.returns-in-None
-unfolding header bytes
-returns-in-None c = header_left refl refl (rw c.in-None.is at c.copy_text.ensures) c.refusal_with.ensures
+returns c = rw c.ok_or.ensures.value (header_put refl refl _ c.copy_text.ensures c.refusal_with.ensures)

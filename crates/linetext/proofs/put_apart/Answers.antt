@@ -1,9 +1,6 @@
--- `linetext::put_apart` meets its promise: the text stands at the front of a buffer of its own, from where it is copied, or it has no room.
-use Rattle.linetext.specs.Laws.{lined, apart_done, apart_left}
+-- `linetext::put_apart` meets its promise.
+use Rattle.linetext.specs.Laws.{lined, apart_put}
 use Rattle.linetext.proofs.put_apart.Goals as goal
 
-pub returns-in-Some : goal.returns-in-Some
-returns-in-Some c = apart_done (lined c.put_either-size.ensures) c.in-Some.ensures
-
-pub returns-in-None : goal.returns-in-None
-returns-in-None c = apart_left (lined c.put_either-size.ensures) c.in-None.ensures c.refusal_with.ensures
+pub returns : goal.returns
+returns c = rw c.ok_or.ensures.value (apart_put (lined c.put_either-size.ensures) _ c.copy_text.ensures c.refusal_with.ensures)
