@@ -220,7 +220,7 @@ impl Names {
         None
     }
 
-    // The number of a name.
+    // The number of a name, if it has one.
     pub fn find(&self, name: &[u8]) -> Option<i32>
         ensures { Finds self.now name.now result }
     {
