@@ -1,6 +1,6 @@
 -- From what the private functions say to the promise.
 -- Assumes nothing.
-use Rattle.std.specs.Prelude.{◌≡◌, ℕ, ◌+◌, ◌-◌, ◌<◌, ◌≤◌, ℤ, Ok, Err}
+use Rattle.std.specs.Prelude.{◌≡◌, ℕ, ◌+◌, ◌-◌, ◌<◌, ◌≤◌, ℤ, Ok}
 use Rattle.std.proofs.Common.{sym, ◌∙◌, ap, ap₂, subst, subst₂, inl, inr, ⊎_elim, arith, lt-ltb, le-ltb}
 use Rattle.whole.specs.Tests.{lt_or_ge}
 use Rattle.whole.specs.Integers.{unbias_le}
@@ -146,4 +146,4 @@ module _ (c : Calendar) {z : ℤ} {m : ℕ} (s : MonthSpan) (p : SpanOf c z m s)
       }
 
   pub runs_row : {r : Runs} → RunsIn s r → RunsOf c z m (Ok r)
-  runs_row w = month_row c s p Err (are_runs (has_runs w))
+  runs_row w = month_row c s p (are_runs (has_runs w))

@@ -1,6 +1,6 @@
 -- What `runs_of` promises: the days that a month of the unbounded calendar has, as runs of days of the month.
 -- Assumes nothing.
-use Rattle.std.specs.Prelude.{◌⊎◌, ℕ, ◌+◌, ◌<◌, ◌≤◌, ℤ, Result, Ok, Err}
+use Rattle.std.specs.Prelude.{◌⊎◌, ℕ, ◌+◌, ◌<◌, ◌≤◌, ℤ, Result, Ok}
 use Rattle.days.specs.DayByDay.{Label, label, Borne}
 use Rattle.calendar.specs.declared.Calendar.{Calendar}
 use Rattle.calendar.specs.Calendars.{labels}
@@ -37,4 +37,4 @@ pub data AreRuns (f : ℤ → Label) (y : ℤ) (m : ℕ) : Result Runs Refusal �
 
 -- runs_of: 16, 3, or the runs
 abbrev pub RunsOf : Calendar → ℤ → ℕ → Result Runs Refusal → Type 0
-RunsOf c y m = OfAMonth c m Err (AreRuns (labels c) y m)
+RunsOf c y m = OfAMonth c m (AreRuns (labels c) y m)

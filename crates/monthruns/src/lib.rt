@@ -30,10 +30,8 @@ pub enum Runs {
 pub fn runs_of(calendar: Calendar, year: i32, month: u32) -> Result<Runs, Refusal>
     ensures { RunsOf calendar year month result }
 {
-    match span_of(calendar, year, month) {
-        Err(refusal) => Err(refusal),
-        Ok(s) => Ok(runs_in(s)),
-    }
+    let s = span_of(calendar, year, month)?;
+    Ok(runs_in(s))
 }
 
 // A month with a Julian day begins in that reckoning, so such days count from its first day; Gregorian ones count from the month's first
