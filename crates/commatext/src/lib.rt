@@ -310,6 +310,7 @@ fn quoted_end(s: &[u8], from: usize) -> usize
     from
 }
 
+// Of a usual record the comma between the fields, the offset after them, and that after the line end.
 fn usual_pair(s: &[u8], ends: bool) -> Option<(usize, usize, usize)>
     ensures { FindsUsual ends s.now result }
 {

@@ -37,10 +37,7 @@ fn put_plain(field: &[u8], line: &mut [u8], at: usize) -> usize
     requires { at + length field.now ≤ length line.old }
     ensures { PutText line.old at field.now line.new result }
 {
-    match buffer::copy_text(line, at, field) {
-        Some(end) => end,
-        None => at,
-    }
+    buffer::copy_text(line, at, field).unwrap_or(at)
 }
 
 fn put_field(field: &[u8], line: &mut [u8], at: usize) -> usize

@@ -17,11 +17,11 @@ outside_quotes-requires c = at_start _
 
 pub put_line-size-requires : goal.put_line-size-requires
 put_line-size-requires c =
-    let room = pair_room (the_pair c.in-Some-outside_quotes.ensures) in
+    let room = pair_room (the_pair c.in-Pair.ensures) in
     (room.0, room.1, omega (arith, room.2))
 
-pub returns-in-Some-outside_quotes : goal.returns-in-Some-outside_quotes
-returns-in-Some-outside_quotes c = scans_any c.in-Some-outside_quotes.ensures c.put_line-size.ensures
+pub returns-in-Pair : goal.returns-in-Pair
+returns-in-Pair c = scans_any c.in-Pair.ensures c.put_line-size.ensures
 
 pub returns-in-Other : goal.returns-in-Other
 returns-in-Other c = scans_other c.in-Other.ensures
