@@ -1,6 +1,6 @@
 // Numbers in text: what stands at an offset of the bytes. A number is read here and nowhere else; its digits are read by `digits`.
 // Each call answers for any bytes and any offset.
-// For users: the answers of `Reader`. For the crates above: the reads at an offset.
+// For the crates above: the reads at an offset. For users there is `Reader`.
 
 #![tactic(auto)]
 
