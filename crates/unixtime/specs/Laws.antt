@@ -1,6 +1,6 @@
 -- From seconds that are biased as naturals, counted from the start of the lowest day, to the day of a time; and from that to the promises.
 -- Assumes nothing.
-use Rattle.std.specs.Prelude.{◌≡◌, ℕ, suc, ◌+◌, ◌-◌, ◌*◌, ◌/◌, ◌%◌, ◌<◌, ◌≤◌, ◌^◌, ℤ, pos, neg_ℤ, ◌+ℤ◌, ◌-ℤ◌, ◌*ℤ◌, Ok, Err, Some, None}
+use Rattle.std.specs.Prelude.{◌≡◌, ℕ, suc, ◌+◌, ◌-◌, ◌*◌, ◌/◌, ◌%◌, ◌<◌, ◌≤◌, ◌^◌, ℤ, pos, neg_ℤ, ◌+ℤ◌, ◌-ℤ◌, ◌*ℤ◌, Ok, Err, Option, Some, ok_or}
 use Rattle.std.proofs.Common.{sym, ◌∙◌, ap, subst, ⊎_elim, arith}
 use Rattle.whole.specs.Tests.{lt_or_ge}
 use Rattle.whole.specs.Biased.{unbias_add, unbias_below, unbias_above, unbias_injective}
@@ -106,11 +106,9 @@ day_second_at {t} x h e f g =
 
 -- ---- From the day of a time to the promises
 
-pub day_time_row : {t n : ℤ} {s : ℕ} → DaySecondOf t (Some (n, s)) → Unix2Jdn t (Ok (n, s))
-day_time_row {n = n} {s} (at f u) = passes (record { on_day = n; seconds = s; day_fits = f; is_time = u }) (day_time_of u)
-
-pub no_day_row : {t u : ℤ} → u ≡ t → DaySecondOf t None → Unix2Jdn t (refused_time u)
-no_day_row {t} e (outside_32 n) = subst (λ (u : ℤ). Unix2Jdn t (refused_time u)) (sym e) (refuses n)
+pub day_row : {t : ℤ} {d : Option (ℤ × ℕ)} → DaySecondOf t d → Unix2Jdn t (ok_or d (refused_time t))
+day_row (at {n} {s} f u) = passes (record { on_day = n; seconds = s; day_fits = f; is_time = u }) (day_time_of u)
+day_row (outside_32 n) = refuses n
 
 pub timed_refused : (c : Calendar) {t : ℤ} {f : Refusal} → Accepted c → Unix2Jdn t (Err f) → AtUnixTime c t (Err f)
 timed_refused c a (refuses x) = passes a (refuses x)

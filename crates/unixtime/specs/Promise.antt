@@ -29,12 +29,12 @@ pub data DayTimeOf (t : ℤ) : Result (ℤ × ℕ) Refusal → Type 0 where
   day_time_of : {n : ℤ} {s : ℕ} → UnixTime t n s → DayTimeOf t (Ok (n, s))
 
 -- 17: seconds outside the range; its value is the time
-abbrev pub refused_time : ℤ → Result (ℤ × ℕ) Refusal
-refused_time t = Err (refusal 17 t)
+abbrev pub refused_time : ℤ → Refusal
+refused_time = refusal 17
 
 -- unix2jdn: 17, or the day and the seconds
 abbrev pub Unix2Jdn : ℤ → Result (ℤ × ℕ) Refusal → Type 0
-Unix2Jdn t = Unless (On32BitDay t) (refused_time t) (DayTimeOf t)
+Unix2Jdn t = Unless (On32BitDay t) (Err (refused_time t)) (DayTimeOf t)
 
 -- the record of the day of the time t, and the seconds into it
 pub data TimedOf (c : Calendar) (t : ℤ) : Result (Date × ℕ) Refusal → Type 0 where
@@ -42,4 +42,4 @@ pub data TimedOf (c : Calendar) (t : ℤ) : Result (Date × ℕ) Refusal → Typ
 
 -- at_unix_time: 16, 17, or the record and the seconds
 abbrev pub AtUnixTime : Calendar → ℤ → Result (Date × ℕ) Refusal → Type 0
-AtUnixTime c t = Unless (Accepted c) (Err made_up) (Unless (On32BitDay t) (Err (refusal 17 t)) (TimedOf c t))
+AtUnixTime c t = Unless (Accepted c) (Err made_up) (Unless (On32BitDay t) (Err (refused_time t)) (TimedOf c t))

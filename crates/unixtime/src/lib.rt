@@ -7,35 +7,22 @@ pub mod seconds;
 ghost use Rattle.unixtime.specs.Promise.{Unix2Jdn, AtUnixTime};
 
 use calendar::{Calendar, Date, Refusal, refusal_of, switch_of};
-pub use seconds::jdn2unix;
 use seconds::day_second;
-
-// ---- Answers: each is what was asked for, or the refusal
-
-// ---- Calls
+pub use seconds::jdn2unix;
 
 // The day of a time, and the seconds into it.
 pub fn unix2jdn(t: i64) -> Result<(i32, u32), Refusal>
     ensures { Unix2Jdn t result }
 {
-    match day_second(t) {
-        Some((jdn, seconds)) => Ok((jdn, seconds)),
-        None => Err(refusal_of(17, t)),
-    }
+    day_second(t).ok_or(refusal_of(17, t))
 }
 
-// The date of a time, and the seconds into its day.
+// The date of a time, and the seconds into its day. A calendar is refused before a time.
 pub fn at_unix_time(calendar: Calendar, t: i64) -> Result<(Date, u32), Refusal>
     ensures { AtUnixTime calendar t result }
 {
-    match switch_of(calendar) {
-        Err(_) => Err(refusal_of(16, 0)),
-        Ok(_) => match unix2jdn(t) {
-            Err(refusal) => Err(refusal),
-            Ok((jdn, seconds)) => match calendar.at_jdn(jdn) {
-                Err(refusal) => Err(refusal),
-                Ok(date) => Ok((date, seconds)),
-            },
-        },
-    }
+    switch_of(calendar)?;
+    let (jdn, seconds) = unix2jdn(t)?;
+    let date = calendar.at_jdn(jdn)?;
+    Ok((date, seconds))
 }

@@ -12,6 +12,7 @@ const FIRST_SECOND: u64 = 9_223_186_283_400_785_408;
 // The days of 32 bits have one more.
 const LAST_ELAPSED: u64 = 371_085_174_374_399;
 
+// The day of a time, and the seconds into it; nothing where that day is outside 32 bits.
 pub fn day_second(t: i64) -> Option<(i32, u32)>
     ensures { DaySecondOf t result }
 {

@@ -1,33 +1,25 @@
 -- `unixtime::at_unix_time` meets its promise.
 use borrow.Author.Rules.{rules}
+use mir.Syntax.{w32}
 use mir.Facts.{to_z-of_z}
-use Rattle.calendar.specs.Calendars.{Accepted}
-use Rattle.calendar.specs.Laws.{switch_made_up, switch_runs}
-use Rattle.calendar.specs.Rows.{refuses}
+use Rattle.refusals.specs.Passed.{passed_on}
+use Rattle.calendar.specs.Laws.{switch_runs, no_switch}
 use Rattle.unixtime.specs.Laws.{timed_refused, timed_row}
 use Rattle.calendar.specs.Theorems.{never_refused}
-use mir.Syntax.{w32, w64}
 use Rattle.unixtime.proofs.at_unix_time.Goals as goal
-use Rattle.unixtime.proofs.at_unix_time.Goals.{After-at_jdn, After-unix2jdn, In-Ok}
 
-accepted : (c : In-Ok) → Accepted c.args.calendar
-accepted c = (switch_runs _ (rw c.in-Ok.is at c.switch_of.ensures)).accepted
+pub returns-in_err-switch_of : goal.returns-in_err-switch_of
+returns-in_err-switch_of c = rw (passed_on _ c.from_residual.ensures.1) (no_switch _ c.in_err-switch_of.ensures)
 
-pub returns-in-Err : goal.returns-in-Err
-returns-in-Err c = rw c.refusal_of.ensures (refuses (switch_made_up _ (rw c.in-Err.is at c.switch_of.ensures)))
+pub returns-in_err-jdn : goal.returns-in_err-jdn
+returns-in_err-jdn c =
+    rw (passed_on _ c.from_residual-in_err-jdn.ensures.1)
+    (timed_refused _ (switch_runs _ c.in_ok-switch_of.ensures).accepted (rw (to_z-of_z c.ranges.t) at c.in_err-jdn.ensures))
 
-pub returns-in-Err : goal.returns-in-Err
-returns-in-Err c =
-    let u = (goal.at.returns-in-Err c).After-unix2jdn in
-    timed_refused _ (accepted (goal.at.returns-in-Err c).In-Ok) (rw (to_z-of_z {w = w64} u.ranges.t, c.in-Err.is) at u.unix2jdn.ensures)
+pub returns-in_err-date : goal.returns-in_err-date
+returns-in_err-date c = absurd (never_refused (switch_runs _ c.in_ok-switch_of.ensures).accepted c.in_err-date.ensures)
 
-pub returns-in-Err-at_jdn : goal.returns-in-Err-at_jdn
-returns-in-Err-at_jdn c =
-    let d = (goal.at.returns-in-Err-at_jdn c).After-at_jdn in
-    absurd (never_refused (accepted (goal.at.returns-in-Err-at_jdn c).In-Ok) (rw c.in-Err-at_jdn.is at d.at_jdn.ensures))
-
-pub returns-in-Ok : goal.returns-in-Ok
-returns-in-Ok c =
-    let d = (goal.at.returns-in-Ok c).After-at_jdn in
-    timed_row _ (accepted (goal.at.returns-in-Ok c).In-Ok) (rw (to_z-of_z {w = w64} d.ranges.t, d.in-Ok-unix2jdn.is) at d.unix2jdn.ensures)
-    (rw (to_z-of_z {w = w32} {z = d.in-Ok-unix2jdn.jdn} (search rules), c.in-Ok.is) at d.at_jdn.ensures)
+pub returns : goal.returns
+returns c =
+    timed_row _ (switch_runs _ c.in_ok-switch_of.ensures).accepted (rw (to_z-of_z c.ranges.t) at c.in_ok-jdn.ensures)
+    (rw (to_z-of_z {w = w32} {z = c.in_ok-jdn.jdn} (search rules)) at c.in_ok-date.ensures)
