@@ -1,5 +1,5 @@
 -- What the proofs need: the parts of a line, where its name ends, its digits, and its number in 32 bits.
-use Rattle.std.specs.Prelude.{ℕ, zero, suc, ◌+◌, ◌≤◌, ◌<◌, ◌^◌, ◌≡◌, refl, Bool, true, false, List, [], ◌∷◌, ◌++◌, ◌⊎◌, length, get_or, take, drop, ℤ, pos, neg_ℤ, Result, Ok, Err}
+use Rattle.std.specs.Prelude.{ℕ, zero, suc, ◌+◌, ◌≤◌, ◌<◌, ◌^◌, ◌≡◌, refl, Bool, true, false, List, [], ◌∷◌, ◌++◌, ◌⊎◌, length, get_or, take, drop, ℤ, pos, neg_ℤ, Result, Ok, Err, MatchResult, IsErrAnd}
 use Rattle.std.proofs.Common.{sym, ◌∙◌, ap, ap₂, subst, append_assoc, append-nil, inl, inr, ⊎_elim, arith, length-append, length-drop, take_at, drop_at, drop-cons, take-suc, get_or-take, length-take-le, to_z, of_z, to_z-of_z}
 use Rattle.std.specs.Int.{w32}
 use Rattle.whole.specs.Tests.{lt_or_ge}
@@ -11,15 +11,17 @@ use Rattle.bytesearch.specs.One.{never, parted_one, never_parted}
 use Rattle.digits.specs.Numerals.{dash, Digit, Digits, Numeral, Stops, value_of}
 use Rattle.refusals.specs.declared.Refusal.{Refusal}
 use Rattle.refusals.specs.Promise.{refusal}
+use Rattle.refusals.specs.Passed.{passed_on}
 use Rattle.digits.specs.Runs.{leaves_some}
 use Rattle.numbertext.specs.Numerals.{Signed, TooFar, NoSigned}
 use Rattle.numbertext.specs.Promise.{SignedFrom, SignedAt, At}
 use Rattle.numbertext.specs.Meaning.{signed_complete}
 use Rattle.houseline.specs.Form.{Letter, capital, digit, underscore, Letters, Name, Written, Form, form}
-use Rattle.houseline.specs.declared.HouseLine.{HouseLine}
+use Rattle.houseline.specs.declared.House.{House}
+use Rattle.houseline.specs.declared.NoHouse.{NoHouse}
 use Rattle.whole.specs.Text.{tab}
 use Rattle.textlines.specs.Lines.{longest_read}
-use Rattle.houseline.specs.Promise.{Fits32, LeavesAfter, Reads, reads, outside, malformed}
+use Rattle.houseline.specs.Promise.{Fits32, LeavesAfter, house_read, Reads, reads, outside, malformed}
 
 -- ---- letters
 
@@ -229,26 +231,29 @@ pub leaves_one : {at : ℕ} {u : List ℕ} {f g : Refusal} → NoSigned at u f �
 leaves_one {f = f} {g} a b = let e : Err f ≡ Err g = sym (signed_complete (SignedFrom.no_number a)) ∙ signed_complete (SignedFrom.no_number b) in cc
 
 -- what comes of a line whose name ends at `end`, and whose number is written in u
-pub data Outcome (u : List ℕ) (end : ℕ) : HouseLine → Type 0 where
-  fits : {z : ℤ} → Written u z → Fits32 z → Outcome u end (HouseLine.House end z)
-  big : {z : ℤ} {f : Refusal} → Written u z → NoSigned (end + 1) u f → Outcome u end (HouseLine.Outside f)
+pub data Outcome (u : List ℕ) (end : ℕ) : Result House NoHouse → Type 0 where
+  fits : {z : ℤ} → Written u z → Fits32 z → Outcome u end (house_read end z)
+  big : {z : ℤ} {f : Refusal} → Written u z → NoSigned (end + 1) u f → Outcome u end (Err (NoHouse.Outside f))
 
 at_place : {s : List ℕ} {at : ℕ} {r : Result (ℤ × ℕ) Refusal} → at ≤ length s → SignedAt s at r → SignedFrom at (drop at s) r
 at_place h (At.past k) = absurd (omega arith)
 at_place h (At.within k f) = f
 
-module _ {s : List ℕ} {end : ℕ} (h : end < length s) (w : IsWritten (drop (end + 1) s)) where
-  pub outcome_value : {y : ℤ} {next : ℕ} → SignedAt s (end + 1) (Ok (y, next)) → Outcome (drop (end + 1) s) end (HouseLine.House end (to_z w32 (of_z w32 y)))
-  outcome_value a = by w.1 (signed_read w.1 (at_place (omega arith) a))
-    where
-      by : {z y : ℤ} {next : ℕ} → Written (drop (end + 1) s) z → Written32 (end + 1) (drop (end + 1) s) z (Ok (y, next)) → Outcome (drop (end + 1) s) end (HouseLine.House end (to_z w32 (of_z w32 y)))
-      by v (inside f) = subst (λ (x : ℤ). Outcome (drop (end + 1) s) end (HouseLine.House end x)) (sym (to_z-of_z f)) (fits v f)
+-- what was read, with a refusal as that of a number that is outside
+abbrev Told : Result (ℤ × ℕ) Refusal → Result (ℤ × ℕ) NoHouse → Type 0
+Told r t = MatchResult r (λ (x : ℤ × ℕ). t ≡ Ok x) (λ (f : Refusal). IsErrAnd t (λ (e : NoHouse). e ≡ NoHouse.Outside f))
 
-  pub outcome_refused : {f : Refusal} → SignedAt s (end + 1) (Err f) → Outcome (drop (end + 1) s) end (HouseLine.Outside f)
-  outcome_refused a = by w.1 (signed_read w.1 (at_place (omega arith) a))
-    where
-      by : {z : ℤ} {f : Refusal} → Written (drop (end + 1) s) z → Written32 (end + 1) (drop (end + 1) s) z (Err f) → Outcome (drop (end + 1) s) end (HouseLine.Outside f)
-      by v (leaves o n) = big v n
+-- and with the number as that of the line
+abbrev pub numbered_house : ℕ → Result (ℤ × ℕ) NoHouse → Result House NoHouse
+numbered_house end (Ok x) = house_read end (to_z w32 (of_z w32 x.0))
+numbered_house end (Err e) = Err e
+
+pub outcome_is : {s : List ℕ} {end : ℕ} {r : Result (ℤ × ℕ) Refusal} (t : Result (ℤ × ℕ) NoHouse) → end < length s → IsWritten (drop (end + 1) s) → SignedAt s (end + 1) r → Told r t → Outcome (drop (end + 1) s) end (numbered_house end t)
+outcome_is {s} {end} t h w a m = by w.1 (signed_read w.1 (at_place (omega arith) a)) m
+  where
+    by : {u : List ℕ} {z : ℤ} {r : Result (ℤ × ℕ) Refusal} → Written u z → Written32 (end + 1) u z r → Told r t → Outcome u end (numbered_house end t)
+    by {u} v (inside f) m = subst (λ (x : Result (ℤ × ℕ) NoHouse). Outcome u end (numbered_house end x)) (sym m) (subst (λ (y : ℤ). Outcome u end (house_read end y)) (sym (to_z-of_z f)) (fits v f))
+    by {u} v (leaves o n) m = subst (λ (x : Result (ℤ × ℕ) NoHouse). Outcome u end (numbered_house end x)) (sym (passed_on t m)) (big v n)
 
 pub written_by : {u p : List ℕ} (b : Bool) → DigitsFrom u p → Whether (Numerals p) b → Whether (IsWritten u) b
 written_by true d n = is_written d n
@@ -336,13 +341,13 @@ module _ {l : List ℕ} (q u : List ℕ) (e : l ≡ q ++ (tab ∷ u)) (w : Witho
   form_of {z} n v h = subst (λ (x : List ℕ). Form x q z) (sym e) (form n v (subst (λ (x : List ℕ). length x ≤ longest_read) e h))
 
 -- what the reader finds
-pub reads_outcome : {l : List ℕ} {k : ℕ} {r : HouseLine} → Parts l k → k ≤ length l → Name (take k l) → length l ≤ longest_read → Outcome (drop (k + 1) l) k r → Reads l r
-reads_outcome {l} {k} p i n h (fits {z} w f) = subst (λ (x : ℕ). Reads l (HouseLine.House x z)) (length-take-le k l i) (reads (form_of (take k l) (drop (k + 1) l) p.is p.without n w h) f)
+pub reads_outcome : {l : List ℕ} {k : ℕ} {r : Result House NoHouse} → Parts l k → k ≤ length l → Name (take k l) → length l ≤ longest_read → Outcome (drop (k + 1) l) k r → Reads l r
+reads_outcome {l} {k} p i n h (fits {z} w f) = subst (λ (x : ℕ). Reads l (house_read x z)) (length-take-le k l i) (reads (form_of (take k l) (drop (k + 1) l) p.is p.without n w h) f)
 reads_outcome {l} {k} p i n h (big {f = f} w t) =
     outside (form_of (take k l) (drop (k + 1) l) p.is p.without n w h) (subst (λ (x : ℕ). LeavesAfter l x f) (sym (length-take-le k l i)) t)
 
-pub reads_no_name : {l : List ℕ} {k : ℕ} → Parts l k → ¬ Name (take k l) → Reads l HouseLine.Malformed
+pub reads_no_name : {l : List ℕ} {k : ℕ} → Parts l k → ¬ Name (take k l) → Reads l (Err NoHouse.Malformed)
 reads_no_name {l} {k} p o = malformed (form_no_name (take k l) (drop (k + 1) l) p.is p.without o)
 
-pub reads_no_number : {l : List ℕ} {k : ℕ} → Parts l k → ¬ IsWritten (drop (k + 1) l) → Reads l HouseLine.Malformed
+pub reads_no_number : {l : List ℕ} {k : ℕ} → Parts l k → ¬ IsWritten (drop (k + 1) l) → Reads l (Err NoHouse.Malformed)
 reads_no_number {l} {k} p o = malformed (form_no_number (take k l) (drop (k + 1) l) p.is p.without o)

@@ -12,10 +12,16 @@ ghost use Rattle.houseline.specs.Laws.{Lettered, DigitsFrom, Numerals, IsWritten
 use refusals::Refusal;
 use textlines::LONGEST_READ;
 
-// The length of the name and the number; or the number is outside 32 bits, with its refusal as a number in the line; or it is no such line.
+// A line that has the form: where its name ends, and its number.
 #[derive(Clone, Copy)]
-pub enum HouseLine {
-    House(usize, i32),
+pub struct House {
+    pub name_end: usize,
+    pub number: i32,
+}
+
+// Why a line gives no calendar: its number is outside 32 bits, with its refusal as a number in the line; or it is no such line.
+#[derive(Clone, Copy)]
+pub enum NoHouse {
     Outside(Refusal),
     Malformed,
 }
@@ -23,22 +29,7 @@ pub enum HouseLine {
 fn is_letter(b: u8) -> bool
     ensures { Whether (Letter b) result }
 {
-    if b < 48 {
-        return false;
-    }
-    if b <= 57 {
-        return true;
-    }
-    if b < 65 {
-        return false;
-    }
-    if b <= 90 {
-        return true;
-    }
-    if b == 95 {
-        return true;
-    }
-    false
+    matches!(b, b'0'..=b'9' | b'A'..=b'Z' | b'_')
 }
 
 fn only_letters(line: &[u8], end: usize) -> bool
@@ -112,30 +103,29 @@ fn is_number(line: &[u8], at: usize) -> bool
 }
 
 // The name ends at `end`, and the number is written after the tab there.
-fn house_of(line: &[u8], end: usize) -> HouseLine
+fn house_of(line: &[u8], end: usize) -> Result<House, NoHouse>
     requires { (end < length line.now) × (IsWritten (drop (end + 1) line.now)) }
     ensures { Outcome (drop (end + 1) line.now) end result }
 {
-    match numbertext::signed_at(line, end + 1) {
-        Ok((r, _)) => HouseLine::House(end, r),
-        Err(f) => HouseLine::Outside(f),
-    }
+    let (number, _) = numbertext::signed_at(line, end + 1).map_err(NoHouse::Outside)?;
+    Ok(House {
+        name_end: end,
+        number,
+    })
 }
 
-pub fn read_line(line: &[u8]) -> HouseLine
+pub fn read_line(line: &[u8]) -> Result<House, NoHouse>
     ensures { Reads line.now result }
 {
     if LONGEST_READ < line.len() {
-        return HouseLine::Malformed;
+        return Err(NoHouse::Malformed);
     }
     let tab = bytesearch::by_eights(line, 0, b'\t');
     if line.len() <= tab {
-        return HouseLine::Malformed;
+        return Err(NoHouse::Malformed);
     }
-    if is_name(line, tab) {
-        if is_number(line, tab + 1) {
-            return house_of(line, tab);
-        }
+    if is_name(line, tab) && is_number(line, tab + 1) {
+        return house_of(line, tab);
     }
-    HouseLine::Malformed
+    Err(NoHouse::Malformed)
 }

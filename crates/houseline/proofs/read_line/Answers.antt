@@ -2,6 +2,7 @@
 use Rattle.houseline.specs.Laws.{form_long, form_no_tab, no_tab, parts, reads_outcome, reads_no_name, reads_no_number}
 use Rattle.houseline.specs.Promise.{malformed}
 use native.Mathlib.Omega.{arith}
+use Rattle.houseline.proofs.read_line.Goals.{else-is_name-via-then-is_name+else-is_number, else-is_name-via-else-is_name}
 use Rattle.houseline.proofs.read_line.Goals as goal
 
 pub returns-then-line-gt-LONGEST_READ : goal.returns-then-line-gt-LONGEST_READ
@@ -13,8 +14,8 @@ returns-then-line-tab c = malformed (form_no_tab (no_tab c.by_eights-tab.ensures
 pub returns-then-is_number : goal.returns-then-is_number
 returns-then-is_number c = reads_outcome (parts c.by_eights-tab.ensures c.if-line-tab.false) (omega arith) (rw c.if-is_name.true at c.is_name.ensures) c.if-line-gt-LONGEST_READ.false c.house_of.ensures
 
-pub returns-else-is_number : goal.returns-else-is_number
-returns-else-is_number c = reads_no_number (parts c.by_eights-tab.ensures c.if-line-tab.false) (rw c.if-is_number.false at c.is_number.ensures)
-
-pub returns-else-is_name : goal.returns-else-is_name
-returns-else-is_name c = reads_no_name (parts c.by_eights-tab.ensures c.if-line-tab.false) (rw c.if-is_name.false at c.is_name.ensures)
+pub returns : goal.returns
+returns c = elim c.else-is_name.branch [
+  | else-is_name-via-then-is_name+else-is_number w ↦ reads_no_number (parts c.by_eights-tab.ensures c.if-line-tab.false) (rw w.if-is_number.false at w.is_number.ensures)
+  | else-is_name-via-else-is_name w ↦ reads_no_name (parts c.by_eights-tab.ensures c.if-line-tab.false) (rw w.if-is_name.false at c.is_name.ensures)
+]
