@@ -1,6 +1,5 @@
 -- A program that reads blocks and writes as it goes. `Promise` says what each phase does next, and what has happened since the last
--- call, and `Counts` how many bytes a read gave. `One` shows that a promise allows one result, and `Laws` has what the proofs need.
+-- call. `One` shows that a promise allows one result, and `Laws` has what the proofs need.
 pub mod Promise
-pub mod Counts
 pub mod Laws
 pub mod One

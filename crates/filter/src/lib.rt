@@ -5,7 +5,6 @@
 #![tactic(auto)]
 
 ghost use Rattle.std.specs.Prelude.{◌≡◌, min, length, take};
-ghost use Rattle.filter.specs.Counts.{clamp_len};
 ghost use Rattle.filter.specs.Promise.{goes_on_value, output_of, room_of, arrived_of, event_of, state_with_value, PutsMessage};
 
 use writer::buffer;
@@ -55,27 +54,16 @@ pub enum Event {
 pub fn goes_on(state: State) -> bool
     ensures { result ≡ goes_on_value state.phase }
 {
-    let phase = state.phase;
-    match phase {
-        Phase::Reading => true,
-        Phase::Midway => true,
-        Phase::Closing => true,
-        Phase::Failing => true,
-        Phase::Ended => false,
-    }
+    !matches!(state.phase, Phase::Ended)
 }
 
 // The descriptor that the output is written to.
 pub fn output(state: State) -> i32
     ensures { result ≡ output_of state.phase }
 {
-    let phase = state.phase;
-    match phase {
-        Phase::Reading => 1,
-        Phase::Midway => 1,
-        Phase::Closing => 1,
+    match state.phase {
         Phase::Failing => 2,
-        Phase::Ended => 1,
+        Phase::Reading | Phase::Midway | Phase::Closing | Phase::Ended => 1,
     }
 }
 
@@ -83,18 +71,9 @@ pub fn output(state: State) -> i32
 pub fn room(state: State, written: bool) -> usize
     ensures { result ≡ room_of state.phase written }
 {
-    let phase = state.phase;
-    match phase {
-        Phase::Reading => {
-            if written {
-                return BLOCK_SIZE;
-            }
-            0
-        }
-        Phase::Midway => 0,
-        Phase::Closing => 0,
-        Phase::Failing => 0,
-        Phase::Ended => 0,
+    match state.phase {
+        Phase::Reading if written => BLOCK_SIZE,
+        _ => 0,
     }
 }
 
@@ -102,10 +81,7 @@ pub fn room(state: State, written: bool) -> usize
 pub fn front(s: &[u8], size: usize) -> &[u8]
     ensures { result.now ≡ take size s.now }
 {
-    if size < s.len() {
-        return &s[..size];
-    }
-    s
+    s.get(..size).unwrap_or(s)
 }
 
 // ---- What the crates above ask
@@ -114,71 +90,32 @@ pub fn front(s: &[u8], size: usize) -> &[u8]
 pub fn happened(state: State, written: bool, got: isize, block: &[u8; BLOCK_SIZE]) -> Event
     ensures { result ≡ event_of state written got }
 {
-    let phase = state.phase;
-    match phase {
-        Phase::Reading => {
-            if written {
-                return arrived(got, block);
-            }
-            Event::Unwritten
-        }
-        Phase::Midway => {
-            if written {
-                return Event::Block(state.at, state.count);
-            }
-            Event::Unwritten
-        }
-        Phase::Closing => {
-            if written {
-                return Event::Finished;
-            }
-            Event::Unwritten
-        }
-        Phase::Failing => Event::Finished,
-        Phase::Ended => Event::Finished,
+    match state.phase {
+        Phase::Failing | Phase::Ended => Event::Finished,
+        _ if !written => Event::Unwritten,
+        Phase::Reading => arrived(got, block),
+        Phase::Midway => Event::Block(state.at, state.count),
+        Phase::Closing => Event::Finished,
     }
 }
 
+// What a read answered: a negative number where it failed, else how many bytes of the block it gave.
 pub fn arrived(got: isize, block: &[u8; BLOCK_SIZE]) -> Event
     ensures { result ≡ arrived_of got }
 {
-    if got < 0 {
-        return Event::Unread;
+    match usize::try_from(got) {
+        Err(_) => Event::Unread,
+        Ok(0) => Event::InputEnds,
+        Ok(count) => Event::Block(0, count.min(block.len())),
     }
-    let count = byte_count(got, block);
-    if count < 1 {
-        return Event::InputEnds;
-    }
-    Event::Block(0, count)
-}
-
-// What a read answered as a number of the block's bytes: 0 where it is negative, and at most all of them.
-fn byte_count(got: isize, block: &[u8]) -> usize
-    ensures { result ≡ clamp_len got (length block.now) }
-{
-    if 0 < got {
-        return shorter(got as usize, block.len());
-    }
-    0
-}
-
-fn shorter(a: usize, b: usize) -> usize
-    ensures { result ≡ min a b }
-{
-    if a < b {
-        return a;
-    }
-    b
 }
 
 // The message is put into the output, and the program ends once it is written.
 pub fn say(text: &[u8], out: &mut [u8; BLOCK_SIZE]) -> State
     ensures { PutsMessage text.now out.old out.new result }
 {
-    match buffer::copy_text(out, 0, text) {
-        Some(used) => state_with(Phase::Failing, used),
-        None => state_with(Phase::Failing, 0),
-    }
+    let used = buffer::copy_text(out, 0, text).unwrap_or(0);
+    state_with(Phase::Failing, used)
 }
 
 // A state in which nothing of a block and of a line is left.
