@@ -39,10 +39,10 @@ module _ {t : List ℕ} {y : ℤ} {m d : ℕ} (w : YmdDecimal t y m d) (f : SFit
   written_belongs = Belongs.by_day written_writes.1
 
   -- whoever reads it has the date
-  pub reads_back : {r : Result Text Refusal} → ReadDate t r → (k : ℕ) × (r ≡ Text.Ymd y m d k)
+  pub reads_back : {r : Result Text Refusal} → ReadDate t r → (k : ℕ) × (r ≡ Ok (Text.Ymd y m d k))
   reads_back g = let e = written_writes in (e.0, read_one g (ReadDate.ymd_text e.1))
 
 -- so for what `write_ymd` has put at the front of a buffer
 pub round_trip : {y : ℤ} {m d : ℕ} {b b' : List ℕ} {i : ℕ} → SFits w32 y → Month m → d < 2 ^ 32 → WriteYmd y m d b b' (Ok i)
-    → {r : Result Text Refusal} → ReadDate (take i b') r → (k : ℕ) × (r ≡ Text.Ymd y m d k)
+    → {r : Result Text Refusal} → ReadDate (take i b') r → (k : ℕ) × (r ≡ Ok (Text.Ymd y m d k))
 round_trip f mo h w g = reads_back (written_front w) f mo h g

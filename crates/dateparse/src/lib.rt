@@ -13,22 +13,20 @@ use datetext::Text;
 pub fn parse_date(calendar: Calendar, text: &[u8]) -> Result<Date, Refusal>
     ensures { ParseDate calendar text.now result }
 {
-    match calendar::switch_of(calendar) {
-        Err(_) => Err(calendar::refusal_of(16, 0)),
-        Ok(_) => match datetext::read_date(text) {
-            Err(why) => Err(why),
-            Text::Ordinal {
-                year,
-                ordinal,
-                place,
-            } => placed(calendar.at_ordinal_date(year, ordinal), place),
-            Text::Ymd {
-                year,
-                month,
-                day,
-                place,
-            } => placed(calendar.at_ymd(year, month, day), place),
-        },
+    calendar::switch_of(calendar)?;
+    let written = datetext::read_date(text)?;
+    match written {
+        Text::Ordinal {
+            year,
+            ordinal,
+            place,
+        } => placed(calendar.at_ordinal_date(year, ordinal), place),
+        Text::Ymd {
+            year,
+            month,
+            day,
+            place,
+        } => placed(calendar.at_ymd(year, month, day), place),
     }
 }
 
