@@ -34,19 +34,13 @@ pub fn parse_date(calendar: Calendar, text: &[u8]) -> Result<Date, Refusal>
 fn placed(answer: Result<Date, Refusal>, place: usize) -> Result<Date, Refusal>
     ensures { result ≡ placed_at place answer }
 {
-    match answer {
-        Ok(date) => Ok(date),
-        Err(why) => {
-            if why.number == 7 {
-                return Err(why);
-            }
-            Err(Refusal {
-                number: why.number,
-                place: place,
-                value: why.value,
-            })
+    answer.map_err(|why| {
+        if why.number == 7 {
+            why
+        } else {
+            Refusal { place, ..why }
         }
-    }
+    })
 }
 
 // The year-month-day text of a date at the front of the buffer; the answer tells its length.
