@@ -1,5 +1,5 @@
 -- What the proofs need: from the answers of the calls below to the reasons.
-use Rattle.std.specs.Prelude.{◌≡◌, refl, Bool, true, false, not, cond, List, ◌⊎◌, ℕ, suc, ◌+◌, ◌<◌, ℤ, pos, negsuc, ◌-ℤ◌, take, ◌<ℤ◌, ◌≤ℤ◌, Ok, Err, Some, None}
+use Rattle.std.specs.Prelude.{◌≡◌, refl, Bool, true, false, not, cond, List, ◌⊎◌, ℕ, suc, ◌+◌, ◌<◌, ℤ, pos, negsuc, ◌-ℤ◌, take, ◌<ℤ◌, ◌≤ℤ◌, Result, Ok, Err, is_err, IsOk, Option, Some, IsSome}
 use Rattle.std.proofs.Common.{sym, ◌∙◌, ap, subst, ⊎_elim, arith, eq-eqb, ne_eqb}
 use Rattle.std.proofs.Math.IntN.{+ℤ_idr}
 use Rattle.std.specs.Int.Signed.{le_z_yes}
@@ -120,10 +120,10 @@ module _ (c : Calendar) (a : Accepted c) (y : ℤ) (m d k : ℕ) (v : Month m) w
   pub missing_row : {r : Runs} → MissingIn (timeline c) (label y m d) → RunsOf c y m (Ok r) → OfYmd (timeline c) c y m d k (Reason'.Missing (refusal 4 k (pos d)) y m r)
   missing_row n (passes b (passes w (are_runs p))) = OfYmd.missing n p
 
-  pub runs_refused : {f : Refusal} → RunsOf c y m (Err f) → ⊥
-  runs_refused (refuses n) = n a
-  runs_refused (passes b (refuses n)) = n v
-  runs_refused (passes b (passes _ x)) = elim x [ ]
+  pub runs_told : {r : Result Runs Refusal} → RunsOf c y m r → IsOk r
+  runs_told (refuses n) = absurd (n a)
+  runs_told (passes b (refuses n)) = absurd (n v)
+  runs_told (passes b (passes w (are_runs p))) = refl
 
 -- ---- The gap of a skipped label, which is at the one switch of the calendar
 
@@ -148,16 +148,19 @@ gap_sides {b = b} {e} (passes x (reform_record {r} p)) (passes z (reform_record 
 }
 
 -- a calendar that skips some label has both sides
-pub never_side : {i : ℤ} (c : Calendar) → SkipsSome c → Unless (Accepted c) (Err made_up) (ReformRecord i c) (Ok None) → ⊥
-never_side c s (passes x p) = by p s
-  where
-    by : {i : ℤ} {c : Calendar} → ReformRecord i c (Ok None) → SkipsSome c → ⊥
-    by never_julian (l, s) = no_switch s.switches
-    by never_gregorian (l, s) = no_switch s.switches
+pub side_told : {i : ℤ} (c : Calendar) {r : Result (Option Date) Refusal} → Accepted c → Unless (Accepted c) (Err made_up) (ReformRecord i c) r → IsOk r
+side_told c a (refuses n) = absurd (n a)
+side_told c a (passes x never_julian) = refl
+side_told c a (passes x never_gregorian) = refl
+side_told c a (passes x (reform_record p)) = refl
 
-pub refused_side : {i : ℤ} (c : Calendar) {f : Refusal} → Accepted c → Unless (Accepted c) (Err made_up) (ReformRecord i c) (Err f) → ⊥
-refused_side c a (refuses n) = n a
-refused_side c a (passes _ x) = elim x [ ]
+pub side_there : {i : ℤ} (c : Calendar) {o : Option Date} → SkipsSome c → Unless (Accepted c) (Err made_up) (ReformRecord i c) (Ok o) → IsSome o
+side_there c s (passes x p) = by p s
+  where
+    by : {i : ℤ} {c : Calendar} {o : Option Date} → ReformRecord i c (Ok o) → SkipsSome c → IsSome o
+    by never_julian (l, s) = absurd (no_switch s.switches)
+    by never_gregorian (l, s) = absurd (no_switch s.switches)
+    by (reform_record p) s = refl
 
 pub skipped_ymd : {c : Calendar} {y : ℤ} {m d k : ℕ} {r : Reason} → Skipped c (label y m d) → AroundGap c d k r → OfYmd (timeline c) c y m d k r
 skipped_ymd s (AroundGap.around_gap g) = OfYmd.skipped (g _ s)
@@ -183,9 +186,9 @@ module _ (c : Calendar) (a : Accepted c) (y : ℤ) (o k : ℕ) where
   pub length_row : {l : ℕ} → OffYear c y o → YearLengthOf c y (Ok l) → OfOrdinal (timeline c) c y o k (Reason'.OffYear (refusal 6 k (pos o)) y l)
   length_row (n, p, h) (passes b (number q)) = OfOrdinal.off_year q (subst (λ (n : ℕ). (o ≡ 0) ⊎ (n < o)) (days_one p q) h)
 
-  pub length_refused : {f : Refusal} → YearLengthOf c y (Err f) → ⊥
-  length_refused (refuses n) = n a
-  length_refused (passes _ x) = elim x [ ]
+  pub length_told : {r : Result ℕ Refusal} → YearLengthOf c y r → IsOk r
+  length_told (refuses n) = absurd (n a)
+  length_told (passes b (number q)) = refl
 
 -- ---- A text that is no date
 
@@ -199,9 +202,13 @@ no_year (At.past h) f p = absurd (omega arith)
 
 pub some_year : {s : List ℕ} {y : ℤ} {i : ℕ} → SignedAt s 0 (Ok (y, i)) → YearFault s false
 some_year {s} {y} {i} p f q n =
-    let e : Ok (y, i) ≡ Err f = signed_one p (At.within (omega arith) (SignedFrom.no_number n)) in
+    let e : ◌≡◌ {A = Result (ℤ × ℕ) Refusal} (Ok (y, i)) (Err f) = signed_one p (At.within (omega arith) (SignedFrom.no_number n)) in
     let z : ◌≡◌ {A = ℕ} 0 1 = cc in
     omega arith
+
+pub year_fault : {s : List ℕ} (r : Result (ℤ × ℕ) Refusal) → SignedAt s 0 r → YearFault s (is_err r)
+year_fault (Err g) p = no_year p
+year_fault (Ok (y, i)) p = some_year p
 
 -- 10 stands at the first place
 pub ten_first : {s : List ℕ} {f : Refusal} → Fault s f → f.number ≡ 10 → f.place ≡ 0
@@ -237,11 +244,11 @@ module _ {s : List ℕ} where
   pub is_faulty : {f : Refusal} → ReadDate s (Err f) → Fault s f
   is_faulty (ReadDate.faulty p) = p
 
-  pub is_ordinal : {y : ℤ} {o k : ℕ} → ReadDate s (Text.Ordinal y o k) → OrdinalText s y o k
+  pub is_ordinal : {y : ℤ} {o k : ℕ} → ReadDate s (Ok (Text.Ordinal y o k)) → OrdinalText s y o k
   is_ordinal (ReadDate.ordinal_text p) = p
 
-  pub is_ymd : {y : ℤ} {m d k : ℕ} → ReadDate s (Text.Ymd y m d k) → YmdText s y m d k
+  pub is_ymd : {y : ℤ} {m d k : ℕ} → ReadDate s (Ok (Text.Ymd y m d k)) → YmdText s y m d k
   is_ymd (ReadDate.ymd_text p) = p
 
-  pub is_month : {y : ℤ} {m d k : ℕ} → ReadDate s (Text.Ymd y m d k) → Month m
+  pub is_month : {y : ℤ} {m d k : ℕ} → ReadDate s (Ok (Text.Ymd y m d k)) → Month m
   is_month (ReadDate.ymd_text p) = T.month_written p

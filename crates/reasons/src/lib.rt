@@ -71,17 +71,21 @@ pub fn explain(calendar: Calendar, text: &[u8]) -> Reason
         Err(_) => Reason::MadeUp,
         Ok(_) => match datetext::read_date(text) {
             Err(why) => of_fault(text, why),
-            Text::Ordinal {
-                year,
-                ordinal,
-                place,
-            } => of_ordinal(calendar, year, ordinal, place),
-            Text::Ymd {
-                year,
-                month,
-                day,
-                place,
-            } => of_ymd(calendar, year, month, day, place),
+            Ok(
+                Text::Ordinal {
+                    year,
+                    ordinal,
+                    place,
+                },
+            ) => of_ordinal(calendar, year, ordinal, place),
+            Ok(
+                Text::Ymd {
+                    year,
+                    month,
+                    day,
+                    place,
+                },
+            ) => of_ymd(calendar, year, month, day, place),
         },
     }
 }
@@ -116,10 +120,7 @@ fn mended_at(number: u32, place: usize) -> usize
 fn is_in_year(text: &[u8]) -> bool
     ensures { YearFault text.now result }
 {
-    match numbertext::signed_at(text, 0) {
-        Err(_) => true,
-        Ok((_, _)) => false,
-    }
+    numbertext::signed_at(text, 0).is_err()
 }
 
 // ---- A year, a month and a day
@@ -146,14 +147,11 @@ fn missing(calendar: Calendar, year: i32, month: u32, day: u32, place: usize) ->
     requires { Accepted calendar × Month month × MissingIn (timeline calendar) (label year month day) }
     ensures { OfYmd (timeline calendar) calendar year month day place result }
 {
-    match monthruns::runs_of(calendar, year, month) {
-        Ok(days) => Reason::Missing {
-            why: refusals::refusal_at(4, place, day),
-            year,
-            month,
-            days,
-        },
-        Err(_) => Reason::MadeUp,
+    Reason::Missing {
+        why: refusals::refusal_at(4, place, day),
+        year,
+        month,
+        days: monthruns::runs_of(calendar, year, month).unwrap(),
     }
 }
 
@@ -162,18 +160,12 @@ fn skipped(calendar: Calendar, day: u32, place: usize) -> Reason
     requires { Accepted calendar × SkipsSome calendar }
     ensures { AroundGap calendar day place result }
 {
-    match calendar.last_julian_date() {
-        Ok(Some(before)) => match calendar.first_gregorian_date() {
-            Ok(Some(after)) => Reason::Skipped {
-                why: refusals::refusal_at(5, place, day),
-                before,
-                after,
-            },
-            Ok(None) => Reason::MadeUp,
-            Err(_) => Reason::MadeUp,
-        },
-        Ok(None) => Reason::MadeUp,
-        Err(_) => Reason::MadeUp,
+    let before = calendar.last_julian_date().unwrap().unwrap();
+    let after = calendar.first_gregorian_date().unwrap().unwrap();
+    Reason::Skipped {
+        why: refusals::refusal_at(5, place, day),
+        before,
+        after,
     }
 }
 
@@ -198,13 +190,10 @@ fn off_year(calendar: Calendar, year: i32, ordinal: u32, place: usize) -> Reason
     requires { Accepted calendar × OffYear calendar year ordinal }
     ensures { OfOrdinal (timeline calendar) calendar year ordinal place result }
 {
-    match months::year_length(calendar, year) {
-        Ok(length) => Reason::OffYear {
-            why: refusals::refusal_at(6, place, ordinal),
-            year,
-            length,
-        },
-        Err(_) => Reason::MadeUp,
+    Reason::OffYear {
+        why: refusals::refusal_at(6, place, ordinal),
+        year,
+        length: months::year_length(calendar, year).unwrap(),
     }
 }
 
@@ -213,10 +202,9 @@ fn off_year(calendar: Calendar, year: i32, ordinal: u32, place: usize) -> Reason
 fn accepted(date: Date) -> Reason
     ensures { result ≡ Reason'.Accepted date (rule_of date.style date.year) }
 {
-    let style = date.style;
     Reason::Accepted {
         date,
-        leap: is_leap(style, date.year),
+        leap: is_leap(date.style, date.year),
     }
 }
 

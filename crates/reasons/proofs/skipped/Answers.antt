@@ -1,21 +1,21 @@
 -- `reasons::skipped` meets its promise.
-use Rattle.reasons.specs.Laws.{AroundGap, gap_sides, never_side, refused_side}
+use Rattle.reasons.specs.Laws.{AroundGap, gap_sides, side_told, side_there}
 use Rattle.reasons.proofs.skipped.Goals as goal
 
-pub returns-in-Ok-Some-first_gregorian_date : goal.returns-in-Ok-Some-first_gregorian_date
-returns-in-Ok-Some-first_gregorian_date c =
+pub unwrap-requires : goal.unwrap-requires
+unwrap-requires c = side_told _ c.requires.0 c.last_julian_date.ensures
+
+pub unwrap-before-requires : goal.unwrap-before-requires
+unwrap-before-requires c = side_there _ c.requires.1 (rw c.unwrap.ensures at c.last_julian_date.ensures)
+
+pub unwrap-requires-2 : goal.unwrap-requires-2
+unwrap-requires-2 c = side_told _ c.requires.0 c.first_gregorian_date.ensures
+
+pub unwrap-after-requires : goal.unwrap-after-requires
+unwrap-after-requires c = side_there _ c.requires.1 (rw c.unwrap-2.ensures at c.first_gregorian_date.ensures)
+
+pub returns : goal.returns
+returns c =
     rw c.refusal_at.ensures (AroundGap.around_gap (gap_sides
-    c.in-Ok-Some.ensures
-    c.in-Ok-Some-first_gregorian_date.ensures))
-
-pub returns-in-Ok-None-first_gregorian_date : goal.returns-in-Ok-None-first_gregorian_date
-returns-in-Ok-None-first_gregorian_date c = absurd (never_side _ c.requires.1 c.in-Ok-None-first_gregorian_date.ensures)
-
-pub returns-in-Err-first_gregorian_date : goal.returns-in-Err-first_gregorian_date
-returns-in-Err-first_gregorian_date c = absurd (refused_side _ c.requires.0 c.in-Err-first_gregorian_date.ensures)
-
-pub returns-in-Ok-None : goal.returns-in-Ok-None
-returns-in-Ok-None c = absurd (never_side _ c.requires.1 c.in-Ok-None.ensures)
-
-pub returns-in-Err : goal.returns-in-Err
-returns-in-Err c = absurd (refused_side _ c.requires.0 c.in-Err.ensures)
+    (rw (c.unwrap.ensures, c.unwrap-before.ensures) at c.last_julian_date.ensures)
+    (rw (c.unwrap-2.ensures, c.unwrap-after.ensures) at c.first_gregorian_date.ensures)))
