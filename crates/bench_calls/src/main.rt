@@ -5,8 +5,8 @@
 
 ghost use Rattle.std.specs.Prelude.{◌≡◌, ◌+◌, ◌<◌, ◌≤◌, length};
 
+use benchsum::{added, calendar_of, fields, plus, style_bit};
 use calendar::{Calendar, Date, Style};
-use refusals::Refusal;
 
 // ---- The inputs: 4096 days of the years 1 to 2100. Day number and year are at 2 i in `signs`; ordinal, month, day, day ordinal and the length
 // of the text at 8 i in `counts`; the text at 16 i in `texts`
@@ -49,8 +49,7 @@ fn put_counts(counts: &mut [u32], i: usize, d: Date)
     set_count(counts, 8 * i + 1, d.month);
     set_count(counts, 8 * i + 2, d.day);
     set_count(counts, 8 * i + 3, d.day_ordinal);
-    let style = d.style;
-    set_count(counts, 8 * i + 5, style_bit(style));
+    set_count(counts, 8 * i + 5, style_bit(d.style));
 }
 
 fn set_byte(text: &mut [u8], at: usize, b: u8) {
@@ -118,27 +117,13 @@ fn prepare(calendar: Calendar, signs: &mut [i32], counts: &mut [u32], texts: &mu
     requires { (length signs.old ≡ 8192) × (length counts.old ≡ 32768) × (length texts.old ≡ 65536) }
 {
     let mut x: u64 = 1;
-    let mut i: usize = 0;
-    while i < 4096 {
+    for i in 0..4096 {
         x = next(x);
         put_day(calendar, signs, counts, texts, i, day_of(x));
-        i += 1;
     }
 }
 
-// ---- The sum
-
-fn plus(a: u64, b: u64) -> u64 {
-    std::num::wrapping_add_u64(a, b)
-}
-
-fn style_bit(style: Style) -> u32 {
-    match style {
-        Style::Julian => 0,
-        Style::Gregorian => 1,
-        Style::Swedish => 0,
-    }
-}
+// ---- The calls, the k-th one over all rounds
 
 fn style_of(bit: u32) -> Style {
     if bit == 0 {
@@ -147,30 +132,11 @@ fn style_of(bit: u32) -> Style {
     Style::Gregorian
 }
 
-// The fields at places of their own in 64 bits, so that each of them has to be there.
-fn fields(d: Date) -> u64 {
-    let style = d.style;
-    let low = whole::raised(d.jdn) as u64 ^ ((d.ordinal as u64) << 32) ^ ((d.month as u64) << 44);
-    let high = ((d.day as u64) << 50)
-        ^ ((d.day_ordinal as u64) << 56)
-        ^ ((whole::raised(d.year) as u64) << 12);
-    low ^ high ^ ((style_bit(style) as u64) << 62)
-}
-
-fn added(sum: u64, answer: Result<Date, Refusal>) -> u64 {
-    match answer {
-        Ok(d) => plus(sum, fields(d)),
-        Err(f) => plus(sum, f.number as u64),
-    }
-}
-
-// ---- The calls, the k-th one over all rounds
-
 fn date_at(calendar: Calendar, signs: &[i32], counts: &[u32], i: usize) -> Date
     requires { (i < 4096) × (length signs.now ≡ 8192) × (length counts.now ≡ 32768) }
 {
     Date {
-        calendar: calendar,
+        calendar,
         style: style_of(counts[8 * i + 5]),
         year: signs[2 * i + 1],
         ordinal: counts[8 * i],
@@ -229,10 +195,8 @@ fn no_calls(calendar: Calendar, signs: &[i32], counts: &[u32], calls: u64) -> u6
     requires { (length signs.now ≡ 8192) × (length counts.now ≡ 32768) }
 {
     let mut sum: u64 = 0;
-    let mut k: u64 = 0;
-    while k < calls {
+    for k in 0..calls {
         sum = no_call(calendar, signs, counts, k, sum);
-        k += 1;
     }
     sum
 }
@@ -241,10 +205,8 @@ fn jdn_calls(calendar: Calendar, signs: &[i32], calls: u64) -> u64
     requires { length signs.now ≡ 8192 }
 {
     let mut sum: u64 = 0;
-    let mut k: u64 = 0;
-    while k < calls {
+    for k in 0..calls {
         sum = jdn_call(calendar, signs, k, sum);
-        k += 1;
     }
     sum
 }
@@ -253,10 +215,8 @@ fn ymd_calls(calendar: Calendar, signs: &[i32], counts: &[u32], calls: u64) -> u
     requires { (length signs.now ≡ 8192) × (length counts.now ≡ 32768) }
 {
     let mut sum: u64 = 0;
-    let mut k: u64 = 0;
-    while k < calls {
+    for k in 0..calls {
         sum = ymd_call(calendar, signs, counts, k, sum);
-        k += 1;
     }
     sum
 }
@@ -265,10 +225,8 @@ fn parse_calls(calendar: Calendar, counts: &[u32], texts: &[u8], calls: u64) -> 
     requires { (length counts.now ≡ 32768) × (length texts.now ≡ 65536) }
 {
     let mut sum: u64 = 0;
-    let mut k: u64 = 0;
-    while k < calls {
+    for k in 0..calls {
         sum = parse_call(calendar, counts, texts, k, sum);
-        k += 1;
     }
     sum
 }
@@ -277,23 +235,13 @@ fn succ_calls(calendar: Calendar, signs: &[i32], counts: &[u32], calls: u64) -> 
     requires { (length signs.now ≡ 8192) × (length counts.now ≡ 32768) }
 {
     let mut sum: u64 = 0;
-    let mut k: u64 = 0;
-    while k < calls {
+    for k in 0..calls {
         sum = succ_call(calendar, signs, counts, k, sum);
-        k += 1;
     }
     sum
 }
 
 // ---- The orders
-
-fn calendar_of(letter: u8) -> Calendar {
-    match letter {
-        b'J' => Calendar::Julian,
-        b'G' => Calendar::Gregorian,
-        _ => Calendar::REFORM1582,
-    }
-}
 
 fn run(call: u8, calendar: Calendar, signs: &[i32], counts: &[u32], texts: &[u8], calls: u64) -> u64
     requires { (length signs.now ≡ 8192) × (length counts.now ≡ 32768) × (length texts.now ≡ 65536) }
@@ -332,29 +280,20 @@ fn say(rt: &HostRuntime, sum: u64) {
     streams::print(rt, b"\n");
 }
 
-// The orders stand in 512 bytes at most.
-fn order_at(rt: &HostRuntime, orders: &[u8], at: usize)
-    requires { at + 8 ≤ length orders.now }
+fn answer(rt: &HostRuntime, order: &[u8])
+    requires { length order.now ≡ 8 }
 {
-    let end = at + 7;
-    let n = rounds(&orders[at..end]);
-    say(rt, obey(orders[at], calendar_of(orders[at + 1]), n));
-}
-
-fn all_orders(rt: &HostRuntime, orders: &[u8], n: usize)
-    requires { (n ≤ length orders.now) × (length orders.now ≡ 512) }
-{
-    let mut at: usize = 0;
-    while at + 8 <= n {
-        order_at(rt, orders, at);
-        at += 8;
-    }
+    say(
+        rt,
+        obey(order[0], calendar_of(order[1]), rounds(&order[..7])),
+    );
 }
 
 fn main(rt: HostRuntime) {
+    // The orders stand in 512 bytes at most.
     let mut orders = [0u8; 512];
     let n = streams::read_full(&mut rt.stdin(), &mut orders);
-    if n <= 512 {
-        all_orders(&rt, &orders, n);
+    for order in orders[..n].chunks_exact(8) {
+        answer(&rt, order);
     }
 }

@@ -5,38 +5,8 @@
 // Each call stands in two places, before its loop and in it, so that the compiler leaves it a call.
 #![tactic(auto)]
 
+use benchsum::{added, fields, plus};
 use calendar::{Calendar, Date, Style};
-use refusals::Refusal;
-
-// ---- The sum, as in `bench_calls`
-
-fn plus(a: u64, b: u64) -> u64 {
-    std::num::wrapping_add_u64(a, b)
-}
-
-fn style_bit(style: Style) -> u32 {
-    match style {
-        Style::Julian => 0,
-        Style::Gregorian => 1,
-        Style::Swedish => 0,
-    }
-}
-
-fn fields(d: Date) -> u64 {
-    let style = d.style;
-    let low = whole::raised(d.jdn) as u64 ^ ((d.ordinal as u64) << 32) ^ ((d.month as u64) << 44);
-    let high = ((d.day as u64) << 50)
-        ^ ((d.day_ordinal as u64) << 56)
-        ^ ((whole::raised(d.year) as u64) << 12);
-    low ^ high ^ ((style_bit(style) as u64) << 62)
-}
-
-fn added(sum: u64, answer: Result<Date, Refusal>) -> u64 {
-    match answer {
-        Ok(d) => plus(sum, fields(d)),
-        Err(f) => plus(sum, f.number as u64),
-    }
-}
 
 // ---- The question, which stands 256 times in memory: raised year, month and day at 4 i
 
@@ -58,12 +28,10 @@ fn question_at(words: &[u32; 1024], k: u64) -> Question {
 
 fn prepared(q: Question) -> [u32; 1024] {
     let mut words = [0u32; 1024];
-    let mut i: usize = 0;
-    while i < 256 {
+    for i in 0..256 {
         words[4 * i] = whole::raised(q.year);
         words[4 * i + 1] = q.month;
         words[4 * i + 2] = q.day;
-        i += 1;
     }
     words
 }
@@ -73,11 +41,10 @@ fn prepared(q: Question) -> [u32; 1024] {
 // The sum alone, of a record that is made of the question.
 fn no_calls(calendar: Calendar, words: &[u32; 1024], calls: u64) -> u64 {
     let mut sum: u64 = 0;
-    let mut k: u64 = 0;
-    while k < calls {
+    for k in 0..calls {
         let q = question_at(words, k);
         let d = Date {
-            calendar: calendar,
+            calendar,
             style: Style::Julian,
             year: q.year,
             ordinal: q.day,
@@ -87,7 +54,6 @@ fn no_calls(calendar: Calendar, words: &[u32; 1024], calls: u64) -> u64 {
             jdn: q.year,
         };
         sum = plus(sum, fields(d));
-        k += 1;
     }
     sum
 }
@@ -95,11 +61,9 @@ fn no_calls(calendar: Calendar, words: &[u32; 1024], calls: u64) -> u64 {
 fn jdn_calls(calendar: Calendar, words: &[u32; 1024], calls: u64) -> u64 {
     let q = question_at(words, 0);
     let mut sum: u64 = added(0, calendar.at_jdn(q.year));
-    let mut k: u64 = 0;
-    while k < calls {
+    for k in 0..calls {
         let q = question_at(words, k);
         sum = added(sum, calendar.at_jdn(q.year));
-        k += 1;
     }
     sum
 }
@@ -107,11 +71,9 @@ fn jdn_calls(calendar: Calendar, words: &[u32; 1024], calls: u64) -> u64 {
 fn ymd_calls(calendar: Calendar, words: &[u32; 1024], calls: u64) -> u64 {
     let q = question_at(words, 0);
     let mut sum: u64 = added(0, calendar.at_ymd(q.year, q.month, q.day));
-    let mut k: u64 = 0;
-    while k < calls {
+    for k in 0..calls {
         let q = question_at(words, k);
         sum = added(sum, calendar.at_ymd(q.year, q.month, q.day));
-        k += 1;
     }
     sum
 }
@@ -119,11 +81,9 @@ fn ymd_calls(calendar: Calendar, words: &[u32; 1024], calls: u64) -> u64 {
 fn ordinal_calls(calendar: Calendar, words: &[u32; 1024], calls: u64) -> u64 {
     let q = question_at(words, 0);
     let mut sum: u64 = added(0, calendar.at_ordinal_date(q.year, q.day));
-    let mut k: u64 = 0;
-    while k < calls {
+    for k in 0..calls {
         let q = question_at(words, k);
         sum = added(sum, calendar.at_ordinal_date(q.year, q.day));
-        k += 1;
     }
     sum
 }
@@ -132,9 +92,7 @@ fn ordinal_calls(calendar: Calendar, words: &[u32; 1024], calls: u64) -> u64 {
 
 fn calendar_of(letter: u8) -> Calendar {
     match letter {
-        b'J' => Calendar::Julian,
-        b'G' => Calendar::Gregorian,
-        b'R' => Calendar::REFORM1582,
+        b'J' | b'G' | b'R' => benchsum::calendar_of(letter),
         _ => Calendar::Reforming(0),
     }
 }

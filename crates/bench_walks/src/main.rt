@@ -4,39 +4,10 @@
 // dates.
 #![tactic(auto)]
 
-use calendar::{Calendar, Date, Style};
+use benchsum::{added, calendar_of};
+use calendar::{Calendar, Date};
 use walker::Walker;
 use refusals::Refusal;
-
-// ---- The sum, as in `bench_calls`
-
-fn plus(a: u64, b: u64) -> u64 {
-    std::num::wrapping_add_u64(a, b)
-}
-
-fn style_bit(style: Style) -> u32 {
-    match style {
-        Style::Julian => 0,
-        Style::Gregorian => 1,
-        Style::Swedish => 0,
-    }
-}
-
-fn fields(d: Date) -> u64 {
-    let style = d.style;
-    let low = whole::raised(d.jdn) as u64 ^ ((d.ordinal as u64) << 32) ^ ((d.month as u64) << 44);
-    let high = ((d.day as u64) << 50)
-        ^ ((d.day_ordinal as u64) << 56)
-        ^ ((whole::raised(d.year) as u64) << 12);
-    low ^ high ^ ((style_bit(style) as u64) << 62)
-}
-
-fn added(sum: u64, answer: Result<Date, Refusal>) -> u64 {
-    match answer {
-        Ok(d) => plus(sum, fields(d)),
-        Err(f) => plus(sum, f.number as u64),
-    }
-}
 
 // ---- The walks
 
@@ -48,16 +19,11 @@ fn walker_of(kind: u8, date: Date) -> Result<Walker, Refusal> {
     }
 }
 
-fn steps(walker: Walker, sum: u64) -> u64 {
-    let mut walker = walker;
-    let mut sum = sum;
-    let mut k: u64 = 0;
-    while k < 4096 {
+fn steps(mut walker: Walker, mut sum: u64) -> u64 {
+    for _ in 0..4096 {
         let moved = walker::stepped(walker);
-        let answer = moved.answer;
         walker = moved.walker;
-        sum = added(sum, answer);
-        k += 1;
+        sum = added(sum, moved.answer);
     }
     sum
 }
@@ -74,23 +40,13 @@ fn walk(kind: u8, calendar: Calendar, sum: u64) -> u64 {
 
 fn walks(kind: u8, calendar: Calendar, rounds: u32) -> u64 {
     let mut sum: u64 = 0;
-    let mut k: u32 = 0;
-    while k < rounds {
+    for _ in 0..rounds {
         sum = walk(kind, calendar, sum);
-        k += 1;
     }
     sum
 }
 
 // ---- The order
-
-fn calendar_of(letter: u8) -> Calendar {
-    match letter {
-        b'J' => Calendar::Julian,
-        b'G' => Calendar::Gregorian,
-        _ => Calendar::REFORM1582,
-    }
-}
 
 fn rounds(order: &[u8]) -> u32 {
     match numbertext::number_at(order, 2) {

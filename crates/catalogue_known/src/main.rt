@@ -5,7 +5,7 @@
 
 #![tactic(auto)]
 
-ghost use Rattle.std.specs.Prelude.{◌≡◌, ◌+◌, ◌<◌, ◌≤◌, length};
+ghost use Rattle.std.specs.Prelude.{◌<◌, ◌≤◌, length};
 
 use calendar::Calendar;
 use catalogue::Names;
@@ -52,29 +52,17 @@ fn read_cut(file: &[u8], cut: usize, names: &mut Names) -> Result<usize, Refusal
 // ---- The same catalogue cut in two
 
 fn same_answer(a: Result<usize, Refusal>, b: Result<usize, Refusal>) -> bool {
-    match a {
-        Ok(n) => match b {
-            Ok(m) => n == m,
-            Err(_) => false,
-        },
-        Err(why) => match b {
-            Ok(_) => false,
-            Err(other) => {
-                why.number == other.number && why.place == other.place && why.value == other.value
-            }
-        },
+    match (a, b) {
+        (Ok(n), Ok(m)) => n == m,
+        (Err(why), Err(other)) => {
+            why.number == other.number && why.place == other.place && why.value == other.value
+        }
+        _ => false,
     }
 }
 
 fn same_memory(names: &Names, other: &Names) -> bool {
-    let mut i: usize = 0;
-    while i < LINK_COUNT {
-        if links[i] != other_links[i] {
-            return false;
-        }
-        i += 1;
-    }
-    names[..] == other_names[..]
+    links == other_links && names == other_names
 }
 
 fn is_same(file: &[u8], cut: usize, names: &Names, expected: Result<usize, Refusal>) -> bool
@@ -96,14 +84,10 @@ fn is_cut(size: usize, cut: usize) -> bool
 // How many of the ways to cut a catalogue come to the same.
 fn same_ways(file: &[u8], names: &Names, expected: Result<usize, Refusal>) -> u64 {
     let mut same: u64 = 0;
-    let mut cut: usize = 0;
-    while cut < file.len() {
-        if is_cut(file.len(), cut) {
-            if is_same(file, cut, names, expected) {
-                same = std::num::wrapping_add_u64(same, 1);
-            }
+    for cut in 0..file.len() {
+        if is_cut(file.len(), cut) && is_same(file, cut, names, expected) {
+            same += 1;
         }
-        cut += 1;
     }
     same
 }
@@ -172,48 +156,6 @@ fn answer_piece(rt: &HostRuntime, kind: u8, bytes: &[u8], names: &mut Names) {
     streams::print(rt, b"\n");
 }
 
-// The bytes of a piece, and where the next one begins.
-#[derive(Clone, Copy)]
-struct Piece {
-    from: usize,
-    to: usize,
-    next: usize,
-}
-
-// A piece of `size` bytes, with a newline after them; nothing at the end of the input where there are fewer.
-fn piece_from(from: usize, size: usize, end: usize) -> Piece
-    requires { from ≤ end }
-    ensures { (result.from ≤ result.to) × ((result.to ≤ end) × (from ≤ result.next)) }
-{
-    if size < end - from {
-        let to = from + size;
-        return Piece {
-            from,
-            to,
-            next: to + 1,
-        };
-    }
-    Piece {
-        from: end,
-        to: end,
-        next: end,
-    }
-}
-
-fn piece_at(input: &[u8], at: usize) -> Piece
-    requires { at < length input.now }
-    ensures { (result.from ≤ result.to) × ((result.to ≤ length input.now) × (at < result.next)) }
-{
-    if let Ok((size, after)) = numbertext::number_at(input, at + 1) {
-        if at < after {
-            if after < input.len() {
-                return piece_from(after + 1, size as usize, input.len());
-            }
-        }
-    }
-    piece_from(input.len(), 0, input.len())
-}
-
 fn answer_all(rt: &HostRuntime, input: &[u8]) {
     let mut names = Names::new();
     let mut at: usize = 0;
@@ -223,10 +165,13 @@ fn answer_all(rt: &HostRuntime, input: &[u8]) {
             names = [0u8; NAME_BYTES];
             links = [0u32; LINK_COUNT];
         }
-        let piece = piece_at(input, at);
-        let from = piece.from;
-        let to = piece.to;
-        answer_piece(rt, kind, &input[from..to], &mut names);
+        let piece = pieces::piece_at(input, at + 1);
+        answer_piece(
+            rt,
+            kind,
+            &input[piece.from..piece.to],
+            &mut names,
+        );
         at = piece.next;
     }
 }

@@ -29,23 +29,19 @@ fn open_catalogue(rt: &HostRuntime) -> io::Result<File> {
 }
 
 fn read_file(
-    file: File,
+    mut file: File,
     names: &mut Names,
     block: &mut [u8; BLOCK_SIZE],
     line: &mut [u8; LONGEST_READ],
 ) -> CatalogueRun {
-    let mut file = file;
     let mut run = cataloguerun::start(0, false);
     // The number of turns only bounds the loop: no catalogue is so long.
-    let mut turns = u64::MAX;
-    while 0 < turns {
-        if cataloguerun::reads_on(run) {
-            let got = streams::read_some(&mut file, block);
-            run = cataloguerun::go_on(run, got, block, names, line);
-        } else {
-            return run;
+    for _ in 0..u64::MAX {
+        if !cataloguerun::reads_on(run) {
+            break;
         }
-        turns -= 1;
+        let got = streams::read_some(&mut file, block);
+        run = cataloguerun::go_on(run, got, block, names, line);
     }
     run
 }

@@ -38,13 +38,10 @@ fn main(rt: HostRuntime) {
     );
     let mut state = explainrun::start(catalogue);
     // The number of turns only bounds the loop: no input is so long.
-    let mut turns = u64::MAX;
-    while 0 < turns {
-        if filter::goes_on(state) {
-            state = turn(&rt, &names, state, &mut block, &mut line, &mut out);
-        } else {
+    for _ in 0..u64::MAX {
+        if !filter::goes_on(state) {
             return;
         }
-        turns -= 1;
+        state = turn(&rt, &names, state, &mut block, &mut line, &mut out);
     }
 }

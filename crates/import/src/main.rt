@@ -44,14 +44,10 @@ fn main(rt: HostRuntime) {
     );
     let mut run = importrun::start(catalogue, &mut out);
     // The number of turns only bounds the loop: no input is so long.
-    let mut turns = u64::MAX;
-    while 0 < turns {
-        let state = run.state;
-        if filter::goes_on(state) {
-            run = turn(&rt, &names, run, &mut block, &mut line, &mut out);
-        } else {
+    for _ in 0..u64::MAX {
+        if !filter::goes_on(run.state) {
             return;
         }
-        turns -= 1;
+        run = turn(&rt, &names, run, &mut block, &mut line, &mut out);
     }
 }

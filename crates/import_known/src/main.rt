@@ -5,7 +5,7 @@
 
 #![tactic(auto)]
 
-ghost use Rattle.std.specs.Prelude.{◌<◌, ◌≤◌, length};
+ghost use Rattle.std.specs.Prelude.{◌≤◌};
 
 use catalogue::Names;
 use filter::BLOCK_SIZE;
@@ -51,8 +51,7 @@ fn import_rest(
     line: &mut [u8; LONGEST_RECORD],
     out: &mut [u8; BLOCK_SIZE],
 ) -> usize {
-    let stopped = reached.stopped;
-    if let Stopped::Ended = stopped {
+    if let Stopped::Ended = reached.stopped {
         return reached.used;
     }
     let left = rest(text, reached.at);
@@ -80,26 +79,11 @@ fn import_cut(
 // The hash of no bytes.
 const EMPTY_HASH: u64 = 14_695_981_039_346_656_037;
 
-fn wide(b: u8) -> u64 {
-    b as u64
-}
-
-// The product with the prime of the hash, 2^40 + 435, without the bits that do not fit: the two halves of the number are multiplied one by one.
-fn times_prime(hash: u64) -> u64 {
-    let low = hash % 4_294_967_296 * 435;
-    let high = hash / 4_294_967_296 * 435;
-    let small = std::num::wrapping_add_u64(low, high << 32);
-    std::num::wrapping_add_u64(small, hash << 40)
-}
+// The prime of the hash, 2^40 + 435.
+const PRIME: u64 = 1_099_511_628_211;
 
 fn hash_bytes(bytes: &[u8], before: u64) -> u64 {
-    let mut hash = before;
-    let mut i: usize = 0;
-    while i < bytes.len() {
-        hash = times_prime(hash ^ wide(bytes[i]));
-        i += 1;
-    }
-    hash
+    bytes.iter().fold(before, |hash, b| (hash ^ u64::from(*b)).wrapping_mul(PRIME))
 }
 
 // ---- All short strings
@@ -135,10 +119,8 @@ fn put_string(number: usize, size: usize, text: &mut [u8; LONGEST])
     requires { size ≤ 7 }
 {
     let mut digits = number;
-    let mut at = size;
-    while 0 < at {
-        at -= 1;
-        text[at] = letter(digits % 6);
+    for b in text[..size].iter_mut().rev() {
+        *b = letter(digits % 6);
         digits /= 6;
     }
 }
@@ -167,13 +149,10 @@ fn hash_strings(
 ) -> u64
     requires { size ≤ 7 }
 {
-    let count = string_count(size);
     let mut text = [0u8; LONGEST];
     let mut hash = EMPTY_HASH;
-    let mut number: usize = 0;
-    while number < count {
+    for number in 0..string_count(size) {
         hash = hash_string(names, number, size, hash, &mut text, line, out);
-        number += 1;
     }
     hash
 }
@@ -193,11 +172,9 @@ fn answer_strings(
     line: &mut [u8; LONGEST_RECORD],
     out: &mut [u8; BLOCK_SIZE],
 ) {
-    let mut size: usize = 0;
-    while size <= LONGEST {
+    for size in 0..=LONGEST {
         let hash = hash_strings(names, size, line, out);
         write_counts(rt, size, hash);
-        size += 1;
     }
 }
 
@@ -224,15 +201,10 @@ fn same_ways(
     expected: &[u8],
 ) -> u64 {
     let mut same: u64 = 0;
-    let mut cut: usize = 0;
-    while cut < text.len() {
+    for cut in 0..=text.len() {
         if is_same(names, text, cut, line, out, expected) {
-            same = std::num::wrapping_add_u64(same, 1);
+            same = same.wrapping_add(1);
         }
-        cut += 1;
-    }
-    if is_same(names, text, text.len(), line, out, expected) {
-        return std::num::wrapping_add_u64(same, 1);
     }
     same
 }
@@ -255,48 +227,6 @@ fn answer_text(
 
 // ---- The texts of the input
 
-// The bytes of a text, and where the next one begins.
-#[derive(Clone, Copy)]
-struct Piece {
-    from: usize,
-    to: usize,
-    next: usize,
-}
-
-// A text of `size` bytes, with a newline after them; nothing at the end of the input where there are fewer.
-fn piece_from(from: usize, size: usize, end: usize) -> Piece
-    requires { from ≤ end }
-    ensures { (result.from ≤ result.to) × ((result.to ≤ end) × (from ≤ result.next)) }
-{
-    if size < end - from {
-        let to = from + size;
-        return Piece {
-            from,
-            to,
-            next: to + 1,
-        };
-    }
-    Piece {
-        from: end,
-        to: end,
-        next: end,
-    }
-}
-
-fn piece_at(input: &[u8], at: usize) -> Piece
-    requires { at < length input.now }
-    ensures { (result.from ≤ result.to) × ((result.to ≤ length input.now) × (at < result.next)) }
-{
-    if let Ok((size, after)) = numbertext::number_at(input, at) {
-        if at < after {
-            if after < input.len() {
-                return piece_from(after + 1, size as usize, input.len());
-            }
-        }
-    }
-    piece_from(input.len(), 0, input.len())
-}
-
 fn answer_texts(
     rt: &HostRuntime,
     names: &Names,
@@ -307,10 +237,15 @@ fn answer_texts(
 ) {
     let mut at: usize = 0;
     while at < input.len() {
-        let piece = piece_at(input, at);
-        let from = piece.from;
-        let to = piece.to;
-        answer_text(rt, names, &input[from..to], line, out, other);
+        let piece = pieces::piece_at(input, at);
+        answer_text(
+            rt,
+            names,
+            &input[piece.from..piece.to],
+            line,
+            out,
+            other,
+        );
         at = piece.next;
     }
 }

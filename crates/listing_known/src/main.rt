@@ -6,6 +6,7 @@
 ghost use Rattle.std.specs.Prelude.{◌≤◌, length};
 
 use catalogue::Names;
+use filter::front;
 use listing::LONGEST_ENTRY;
 
 // The listing of two blocks, the first of `cut` bytes: how many bytes it has.
@@ -34,13 +35,6 @@ fn list_cut(
     }
 }
 
-fn front<'a>(s: &'a [u8], size: usize) -> &'a [u8] {
-    if size < s.len() {
-        return &s[..size];
-    }
-    s
-}
-
 fn is_same(
     names: &Names,
     input: &[u8],
@@ -64,12 +58,10 @@ fn same_ways(
     expected: &[u8],
 ) -> u64 {
     let mut same: u64 = 0;
-    let mut cut: usize = 0;
-    while cut < input.len() {
+    for cut in 0..input.len() {
         if is_same(names, input, cut, line, out, expected) {
-            same = std::num::wrapping_add_u64(same, 1);
+            same += 1;
         }
-        cut += 1;
     }
     same
 }

@@ -83,10 +83,8 @@ fn all_days(calendar: Calendar, jdn: i32, step: u32, count: u32) -> DaySum {
         given: 0,
         next: whole::raised(jdn) as u64,
     };
-    let mut i: u32 = 0;
-    while i < count {
+    for _ in 0..count {
         s = one_day(s, calendar, step);
-        i += 1;
     }
     s
 }
@@ -105,10 +103,8 @@ fn one_month_day(h: u64, calendar: Calendar, year: i32, month: u32, day: u32) ->
 
 fn month_days(h: u64, calendar: Calendar, year: i32, month: u32) -> u64 {
     let mut sum = h;
-    let mut day: u32 = 0;
-    while day < 34 {
+    for day in 0..34 {
         sum = one_month_day(sum, calendar, year, month, day);
-        day += 1;
     }
     sum
 }
@@ -122,10 +118,8 @@ fn one_month(h: u64, calendar: Calendar, year: i32, month: u32) -> u64 {
 
 pub fn year(calendar: Calendar, year: i32) -> u64 {
     let mut sum = with_number(0, months::year_length(calendar, year));
-    let mut month: u32 = 1;
-    while month < 13 {
+    for month in 1..=12 {
         sum = one_month(sum, calendar, year, month);
-        month += 1;
     }
     sum
 }
@@ -146,10 +140,8 @@ fn one_place(h: u64, calendar: Calendar, year: i32, ordinal: u32) -> u64 {
 
 pub fn places(calendar: Calendar, year: i32) -> u64 {
     let mut sum: u64 = 0;
-    let mut ordinal: u32 = 0;
-    while ordinal < 371 {
+    for ordinal in 0..371 {
         sum = one_place(sum, calendar, year, ordinal);
-        ordinal += 1;
     }
     sum
 }
@@ -165,20 +157,14 @@ struct Walking {
 }
 
 fn one_step(t: Walking) -> Walking {
-    let w = t.walker;
-    let m = walk::lent(w);
-    let after = m.walker;
-    let last = t.last;
-    let answer = m.answer;
-    match answer {
+    let m = walk::lent(t.walker);
+    match m.answer {
         Err(_) => Walking {
-            walker: after,
-            last: last,
-            given: t.given,
-            hash: t.hash,
+            walker: m.walker,
+            ..t
         },
         Ok(date) => Walking {
-            walker: after,
+            walker: m.walker,
             last: date,
             given: std::num::wrapping_add_u32(t.given, 1),
             hash: with_date(t.hash, date),
@@ -186,12 +172,9 @@ fn one_step(t: Walking) -> Walking {
     }
 }
 
-fn steps(start: Walking, count: u32) -> Walking {
-    let mut t = start;
-    let mut i: u32 = 0;
-    while i < count {
+fn steps(mut t: Walking, count: u32) -> Walking {
+    for _ in 0..count {
         t = one_step(t);
-        i += 1;
     }
     t
 }
@@ -202,16 +185,14 @@ fn trail(t: Walking) -> Reply {
     if t.given == 0 {
         return reply::letter(b, b'-');
     }
-    let last = t.last;
-    reply::date(b, last)
+    reply::date(b, t.last)
 }
 
 // The days of a walk, or the walker after them and its next step.
 fn told(w: Walker, count: u32, by_days: bool) -> Reply {
-    let date = w.date;
     let start = Walking {
         walker: w,
-        last: date,
+        last: w.date,
         given: 0,
         hash: 0,
     };
@@ -219,8 +200,7 @@ fn told(w: Walker, count: u32, by_days: bool) -> Reply {
     if by_days {
         return trail(end);
     }
-    let after = end.walker;
-    walk::view(after)
+    walk::view(end.walker)
 }
 
 pub fn walk(date: Date, count: u32, way: u32, by_days: bool) -> Reply {

@@ -63,20 +63,11 @@ fn zero(date: Date) -> Reply {
     reply::counted(a, date.day_ordinal0())
 }
 
-fn text_byte(r: Reply, text: [u8; 14], n: usize, i: usize) -> Reply {
-    if i < n && i < 14 {
-        return reply::add(r, reply::BYTE, whole::counted(text[i] as u32));
-    }
-    r
-}
-
 // The first n bytes of a text, and a tab after them.
 fn text_reply(text: [u8; 14], n: usize) -> Reply {
     let mut r = reply::none();
-    let mut i: usize = 0;
-    while i < 14 {
-        r = text_byte(r, text, n, i);
-        i += 1;
+    for b in text.iter().take(n) {
+        r = reply::add(r, reply::BYTE, whole::counted(*b as u32));
     }
     reply::add(r, reply::BYTE, 9)
 }
@@ -332,13 +323,10 @@ fn held_after(n: usize, last: u8) -> usize {
 fn feed(rt: &HostRuntime, block: &[u8], line: &mut [u8], held: usize, out: &mut [u8]) -> usize {
     let mut n = held;
     let mut used: usize = 0;
-    let mut i: usize = 0;
-    while i < block.len() {
-        let b = block[i];
-        n = kept(line, n, b);
-        used = answer_line(rt, line, n, b, out, used);
-        n = held_after(n, b);
-        i += 1;
+    for b in block {
+        n = kept(line, n, *b);
+        used = answer_line(rt, line, n, *b, out, used);
+        n = held_after(n, *b);
     }
     flush(rt, out, used);
     n
@@ -352,14 +340,13 @@ fn main(rt: HostRuntime) {
     let mut out = [0u8; BLOCK_SIZE];
     let mut line = [0u8; 2048];
     let mut n: usize = 0;
-    let mut turns = u64::MAX;
-    while turns > 0 {
+    // The number of turns only bounds the loop: no input is so long.
+    for _ in 0..u64::MAX {
         let got = streams::read_some(&mut rt.stdin(), &mut block);
         if got <= 0 {
             break;
         }
         let count = got as usize;
         n = feed(&rt, query::front(&block, count), &mut line, n, &mut out);
-        turns -= 1;
     }
 }

@@ -24,10 +24,8 @@ pub fn line_end(out: &mut [u8], at: usize) -> usize {
 
 pub fn word(out: &mut [u8], at: usize, w: &[u8]) -> usize {
     let mut end = at;
-    let mut i: usize = 0;
-    while i < w.len() {
-        end = byte(out, end, w[i]);
-        i += 1;
+    for b in w {
+        end = byte(out, end, *b);
     }
     byte(out, end, b'\t')
 }
@@ -54,22 +52,10 @@ fn field(out: &mut [u8], at: usize, kind: u8, x: i64) -> usize {
     end
 }
 
-fn field_at(out: &mut [u8], at: usize, r: Reply, i: usize) -> usize {
-    if i < 48 {
-        let kind = r.kinds[i];
-        let x = r.values[i];
-        return field(out, at, kind, x);
-    }
-    at
-}
-
 pub fn reply(out: &mut [u8], at: usize, r: Reply) -> usize {
-    let n = r.n;
     let mut end = at;
-    let mut i: usize = 0;
-    while i < n {
-        end = field_at(out, end, r, i);
-        i += 1;
+    for (kind, x) in r.kinds.iter().zip(r.values.iter()).take(r.n) {
+        end = field(out, end, *kind, *x);
     }
     end
 }

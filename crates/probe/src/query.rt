@@ -30,18 +30,12 @@ pub fn byte_at(line: &[u8], at: usize) -> u8 {
     0
 }
 
-fn is_tab(b: u8) -> bool {
-    b == b'\t'
-}
-
 // The place after the next tab, or the end of the line.
 pub fn after_tab(line: &[u8], from: usize) -> usize {
-    let mut i = from;
-    while i < line.len() {
-        if is_tab(line[i]) {
+    for i in from..line.len() {
+        if line[i] == b'\t' {
             return i + 1;
         }
-        i += 1;
     }
     line.len()
 }
@@ -137,14 +131,14 @@ fn record_at(calendar: Calendar, line: &[u8], at: usize) -> Asked {
     let day_ordinal = after_tab(line, day);
     let style = after_tab(line, day_ordinal);
     let date = Date {
-        calendar: calendar,
+        calendar,
         style: style_at(line, style),
         year: signed_at(line, year),
         ordinal: number_at(line, ordinal),
         month: number_at(line, month),
         day: number_at(line, day),
         day_ordinal: number_at(line, day_ordinal),
-        jdn: jdn,
+        jdn,
     };
     Asked {
         answer: Ok(date),
@@ -160,28 +154,19 @@ pub fn date_at(calendar: Calendar, line: &[u8], at: usize) -> Asked {
     }
     Asked {
         answer: calendar.at_jdn(signed_at(line, at)),
-        next: next,
+        next,
     }
 }
-// ---- Seconds, which have 64 bits, and are the last field of their query
 
-fn wide(b: u8) -> u64 {
-    b as u64
-}
+// ---- Seconds, which have 64 bits, and are the last field of their query
 
 // The code of a digit is 48 and the digit, so that its remainder by 16 is the digit.
 fn longer(n: u64, b: u8) -> u64 {
-    (n % 1_000_000_000_000_000_000) * 10 + wide(b) % 16
+    (n % 1_000_000_000_000_000_000) * 10 + u64::from(b) % 16
 }
 
 fn magnitude_at(line: &[u8], from: usize) -> u64 {
-    let mut n: u64 = 0;
-    let mut i = from;
-    while i < line.len() {
-        n = longer(n, line[i]);
-        i += 1;
-    }
-    n
+    line.iter().skip(from).fold(0, |n, b| longer(n, *b))
 }
 
 fn signed_long(negative: bool, n: u64) -> i64 {

@@ -1,9 +1,6 @@
-use Prim.{Unit}
-use Rattle.std.proofs.Common.{◌-◌, length}
+-- Each way counts at most once.
+use Rattle.std.proofs.Common.{◌≤◌}
 use Rattle.catalogue_known.proofs.same_ways.Given as goal
 
 abbrev pub invariant-loop-cut : goal.invariant-loop-cut
-invariant-loop-cut l = Unit
-
-abbrev pub decreases-loop-cut : goal.decreases-loop-cut
-decreases-loop-cut l = length l.file - l.cut
+invariant-loop-cut l = l.same ≤ l.cut

@@ -1,9 +1,0 @@
-use Prim.{Unit}
-use Rattle.std.proofs.Common.{◌-◌, length}
-use Rattle.import_known.proofs.hash_bytes.Given as goal
-
-abbrev pub invariant-loop-i : goal.invariant-loop-i
-invariant-loop-i l = Unit
-
-abbrev pub decreases-loop-i : goal.decreases-loop-i
-decreases-loop-i l = length l.bytes - l.i
