@@ -1,11 +1,12 @@
 -- Why the functions meet their promises.
 -- Assumes nothing.
-use Rattle.std.specs.Prelude.{ℕ, ◌+◌, ◌≤◌, ◌<◌, ◌^◌, ◌≡◌, refl, List, ◌∷◌, Bool, false, length, take, ℤ, pos, Ok, Err}
+use Rattle.std.specs.Prelude.{ℕ, ◌+◌, ◌≤◌, ◌<◌, ◌^◌, ◌≡◌, refl, List, ◌∷◌, Bool, false, length, take, ℤ, pos, Result, Ok, Err, Option, Some, None, ok_or}
 use Rattle.std.proofs.Common.{sym, ◌∙◌, ap, subst, arith, length-append, take_at, to_z, of_z, to_z-of_z}
 use Rattle.std.specs.Int.{w32}
 use Rattle.days.specs.ReformationRules.{accepted, refused_1, refused_2, Judged, all_three}
 use Rattle.days.specs.DayByDay.{Is32Bit, AcceptedReformation}
-use Rattle.switches.specs.Promise.{Judges, accepts_biased, refuses_with_1, refuses_with_2}
+use Rattle.switches.specs.declared.reformation.ReformingError.{ReformingError}
+use Rattle.switches.specs.Promise.{Judges, number_of, accepts_biased, refuses_with_1, refuses_with_2}
 use Rattle.switches.specs.JudgingLaws.{refused_not}
 use Rattle.refusals.specs.declared.Refusal.{Refusal}
 use Rattle.refusals.specs.Promise.{refusal}
@@ -22,11 +23,12 @@ use Rattle.nametable.specs.Houses.{house}
 use Rattle.whole.specs.Text.{tab}
 use Rattle.houseline.specs.Form.{Form, form}
 use Rattle.houseline.specs.Laws.{leaves_place}
-use Rattle.houseline.specs.Promise.{Reads, reads, outside, malformed}
-use Rattle.houseline.specs.declared.HouseLine.{HouseLine}
+use Rattle.houseline.specs.Promise.{house_read, Reads, reads, outside, malformed}
+use Rattle.houseline.specs.declared.House.{House}
+use Rattle.houseline.specs.declared.NoHouse.{NoHouse}
 use Rattle.bytesearch.specs.One.{never}
 use Rattle.catalogue.specs.Catalogue.{LineMeaning, holds, Formed, OfName, leaves, of_form, OfReformation, of_reformation}
-use Rattle.catalogue.specs.Promise.{TakenIn, FreeIn, IsTaken, Result, left_as, added, AddsHouse, adds_house, Adds, made_up, adds, HouseCalendar, NamesIn, unknown}
+use Rattle.catalogue.specs.Promise.{TakenIn, FreeIn, IsTaken, CarriesOut, left_as, added, AddsHouse, adds_house, Adds, made_up, adds, HouseCalendar, NamesIn, unknown}
 
 -- ---- a name that is built in, or not
 
@@ -50,7 +52,7 @@ not_built_in = looks_up
 pub house_accepted : {z y : ℤ} {k : ℕ} → y ≡ z → Judges y (Ok k) → HouseCalendar z (Ok (Reforming y))
 house_accepted {z} {y} e (accepts_biased (all_three a) d) = passes (subst AcceptedReformation e a) (ap (λ (x : ℤ). Ok (Reforming x)) e)
 
-pub house_refused : {z y : ℤ} {number : ℕ} {f : Refusal} → y ≡ z → Judges y (Err number) → f ≡ refusal 16 0 (pos 0) → HouseCalendar z (Err f)
+pub house_refused : {z y : ℤ} {why : ReformingError} {f : Refusal} → y ≡ z → Judges y (Err why) → f ≡ refusal 16 0 (pos 0) → HouseCalendar z (Err f)
 house_refused {z} {y} e j g = subst (λ (x : Refusal). HouseCalendar z (Err x)) (sym g) (refuses (λ a. refused_not j (all_three (subst AcceptedReformation (sym e) a))))
 
 -- ---- 23, 24, 1, 2, or the calendar
@@ -67,13 +69,13 @@ module _ {m : Names} {n : ℕ} {s : List ℕ} {z : ℤ} where
     house_over h e = subst (λ (x : Refusal). AddsHouse m n s z m (Err x)) (sym e) (adds_house (passes f (refuses (omega arith))) left_as)
 
     module _ (h : n < most_lines) where
-      judged_adds : {e : LineMeaning} {m' : Names} {a : Result ℕ Refusal} → OfReformation (n + 1) s z e → Result m n e m' a → AddsHouse m n s z m' a
+      judged_adds : {e : LineMeaning} {m' : Names} {a : Result ℕ Refusal} → OfReformation (n + 1) s z e → CarriesOut m n e m' a → AddsHouse m n s z m' a
       judged_adds o r = adds_house (passes f (passes (few_lines h) o)) r
 
-      pub house_judged : {y : ℤ} {number : ℕ} {g : Refusal} → y ≡ z → Judges y (Err number) → g ≡ refusal number (n + 1) z → AddsHouse m n s z m (Err g)
+      pub house_judged : {y : ℤ} {why : ReformingError} {g : Refusal} → y ≡ z → Judges y (Err why) → g ≡ refusal (number_of why) (n + 1) z → AddsHouse m n s z m (Err g)
       house_judged e j d = subst (λ (x : Refusal). AddsHouse m n s z m (Err x)) (sym d) (by e j)
         where
-          by : {y : ℤ} {number : ℕ} → y ≡ z → Judges y (Err number) → AddsHouse m n s z m (Err (refusal number (n + 1) z))
+          by : {y : ℤ} {why : ReformingError} → y ≡ z → Judges y (Err why) → AddsHouse m n s z m (Err (refusal (number_of why) (n + 1) z))
           by e (refuses_with_1 x) = judged_adds (of_reformation (subst (λ (r : ℤ). Judged r refused_1) e x)) left_as
           by e (refuses_with_2 x) = judged_adds (of_reformation (subst (λ (r : ℤ). Judged r refused_2) e x)) left_as
 
@@ -99,47 +101,50 @@ house_over_told {m} {s = s} t e = house_over (subst (IsTaken m s) e t)
 form_front : {l s : List ℕ} {z : ℤ} → Form l s z → (take (length s) l ≡ s) × (length s ≤ length l) × (length s ≤ most_name)
 form_front (form {name} {text} w v h) = (take_at name (tab ∷ text) (length name) refl, omega (arith, length-append name (tab ∷ text)), w.short)
 
-reads_form : {l : List ℕ} {r : HouseLine} {end : ℕ} {z : ℤ} → r ≡ HouseLine.House end z → Reads l r → (s : List ℕ) × (end ≡ length s) × Form l s z × Is32Bit z
+reads_form : {l : List ℕ} {r : Result House NoHouse} {end : ℕ} {z : ℤ} → r ≡ house_read end z → Reads l r → (s : List ℕ) × (end ≡ length s) × Form l s z × Is32Bit z
 reads_form {end = end} {z} e (reads {name} {z = y} f h) =
-    let i : length name ≡ end = cc in
-    let j : y ≡ z = cc in
+    let q : ◌≡◌ {A = House} (record { name_end = length name; number = y }) (record { name_end = end; number = z }) = cc in
+    let i : length name ≡ end = ap (λ (x : House). x.name_end) q in
+    let j : y ≡ z = ap (λ (x : House). x.number) q in
     (name, sym i, subst (Form _ name) j f, subst Is32Bit j h)
 reads_form e (outside f h) = let z : ◌≡◌ {A = ℕ} 0 1 = cc in absurd (never z)
 reads_form e (malformed n) = let z : ◌≡◌ {A = ℕ} 0 1 = cc in absurd (never z)
 
-pub house_fits : {l : List ℕ} {end : ℕ} {z : ℤ} → Reads l (HouseLine.House end z) → (end ≤ length l) × (end ≤ most_name)
+pub house_fits : {l : List ℕ} {end : ℕ} {z : ℤ} → Reads l (house_read end z) → (end ≤ length l) × (end ≤ most_name)
 house_fits {l} r =
     let (s, e, f, h) = reads_form refl r in
     let (t, a, b) = form_front f in
     (subst (λ (k : ℕ). k ≤ length l) (sym e) a, subst (λ (k : ℕ). k ≤ most_name) (sym e) b)
 
 -- the place at which a number leaves 32 bits is in the line
-pub place_fits : {l : List ℕ} {f : Refusal} → Reads l (HouseLine.Outside f) → f.place < 2 ^ 32
+pub place_fits : {l : List ℕ} {f : Refusal} → Reads l (Err (NoHouse.Outside f)) → f.place < 2 ^ 32
 place_fits (outside g k) = omega (arith, leaves_place g k)
 
 module _ {m : Names} {n : ℕ} {l : List ℕ} (h : n ≤ most_lines) where
-  pub line_malformed : {f : Refusal} → Reads l HouseLine.Malformed → f ≡ refusal 22 (n + 1) (pos 0) → Adds m n l m (Err f)
+  pub line_malformed : {f : Refusal} → Reads l (Err NoHouse.Malformed) → f ≡ refusal 22 (n + 1) (pos 0) → Adds m n l m (Err f)
   line_malformed r e = subst (λ (x : Refusal). Adds m n l m (Err x)) (sym e) (adds h (refuses (none refl r)) left_as)
     where
-      none : {a : HouseLine} → a ≡ HouseLine.Malformed → Reads l a → ¬ Formed l
+      none : {a : Result House NoHouse} → a ≡ Err NoHouse.Malformed → Reads l a → ¬ Formed l
       none i (reads f k) = let z : ◌≡◌ {A = ℕ} 0 1 = cc in absurd (never z)
       none i (outside f k) = let z : ◌≡◌ {A = ℕ} 0 1 = cc in absurd (never z)
       none i (malformed o) = λ (s, z, f). o s z f
 
-  pub line_outside : {f g : Refusal} → Reads l (HouseLine.Outside f) → g ≡ refusal f.number (n + 1) (pos f.place) → Adds m n l m (Err g)
+  pub line_outside : {f g : Refusal} → Reads l (Err (NoHouse.Outside f)) → g ≡ refusal f.number (n + 1) (pos f.place) → Adds m n l m (Err g)
   line_outside {f} r e = subst (λ (x : Refusal). Adds m n l m (Err x)) (sym e) (by r)
     where
-      by : {f : Refusal} → Reads l (HouseLine.Outside f) → Adds m n l m (Err (refusal f.number (n + 1) (pos f.place)))
+      by : {f : Refusal} → Reads l (Err (NoHouse.Outside f)) → Adds m n l m (Err (refusal f.number (n + 1) (pos f.place)))
       by (outside {name} {z} g k) = adds h (passes (name, z, g) (leaves g k)) left_as
 
-  pub line_added : {end : ℕ} {z : ℤ} {m' : Names} {a : Result ℕ Refusal} → Reads l (HouseLine.House end z) → AddsHouse m n (take end l) (to_z w32 (of_z w32 z)) m' a → Adds m n l m' a
+  pub line_added : {end : ℕ} {z : ℤ} {m' : Names} {a : Result ℕ Refusal} → Reads l (house_read end z) → AddsHouse m n (take end l) (to_z w32 (of_z w32 z)) m' a → Adds m n l m' a
   line_added {end} {z} r (adds_house {e = e} o t) =
       let (s, d, f, k) = reads_form refl r in
       let q : take end l ≡ s = ap (λ (j : ℕ). take j l) d ∙ (form_front f).0 in
       adds h (passes (s, z, f) (of_form f k (subst (λ (x : ℤ). OfName (TakenIn m) (FreeIn m) (n + 1) s x e) (to_z-of_z k) (subst (λ (x : List ℕ). OfName (TakenIn m) (FreeIn m) (n + 1) x (to_z w32 (of_z w32 z)) e) q o)))) t
 
-pub unknown_in : {m : Names} {s : List ℕ} {f : Refusal} → ¬ Known s → Finds m s T.Found.Nowhere → f ≡ refusal 19 0 (pos 0) → NamesIn m s (Err f)
-unknown_in {m} {s} n w e = subst (λ (x : Refusal). NamesIn m s (Err x)) (sym e) (unknown n w)
+-- a name that is not found is unknown
+pub unknown_in : {m : Names} {s : List ℕ} {o : Option ℤ} {f g : Refusal} → ¬ Known s → Finds m s o → g ≡ refusal 19 0 (pos 0) → Err f ≡ ok_or o g → NamesIn m s (Err f)
+unknown_in {o = Some z} n w e i = let z : ◌≡◌ {A = ℕ} 0 1 = cc in absurd (never z)
+unknown_in {m} {s} {o = None} {f} n w e i = let j : f ≡ refusal 19 0 (pos 0) = cc in subst (λ (x : Refusal). NamesIn m s (Err x)) (sym j) (unknown n w)
 
 pub line_made_up : {m : Names} {n : ℕ} {l : List ℕ} {f : Refusal} → most_lines < n → f ≡ refusal 16 0 (pos 0) → Adds m n l m (Err f)
 line_made_up {m} {n} {l} h e = subst (λ (x : Refusal). Adds m n l m (Err x)) (sym e) (made_up h)

@@ -1,6 +1,6 @@
 -- A line and a file mean one thing, and each promise allows one result, whatever the memory holds.
 -- Assumes nothing.
-use Rattle.std.specs.Prelude.{ℕ, ◌+◌, ◌^◌, ◌≡◌, refl, List, [], ◌∷◌, ◌++◌, length, ℤ, pos, Err, Some, None}
+use Rattle.std.specs.Prelude.{ℕ, ◌+◌, ◌^◌, ◌≡◌, refl, List, [], ◌∷◌, ◌++◌, length, ℤ, pos, Result, Err, Some, None}
 use Rattle.std.proofs.Common.{sym, ◌∙◌, ap, ap₂, subst, append_assoc, append-nil, inl, inr, arith}
 use Rattle.days.specs.DayByDay.{Is32Bit}
 use Rattle.days.proofs.ReformationTable.{judged_one}
@@ -23,7 +23,7 @@ use Rattle.houseline.specs.One.{form_one, leaves_same}
 use Rattle.catalogue.specs.Catalogue as C
 use Rattle.catalogue.specs.Catalogue.{LineMeaning, holds, judged_is, OfReformation, of_reformation, OfName, OfForm, leaves, of_form, OfLine, LineMeans, Hold, Meaning, catalogue, refused_by, Means, all_hold, first_refused}
 use Rattle.catalogue.specs.Promise as R
-use Rattle.catalogue.specs.Promise.{TakenIn, FreeIn, Result, left_as, added, Adds, made_up, adds, HouseCalendar, NamesIn, held}
+use Rattle.catalogue.specs.Promise.{TakenIn, FreeIn, CarriesOut, left_as, added, Adds, made_up, adds, HouseCalendar, NamesIn, held}
 use Rattle.bytesearch.specs.One.{never}
 pub use Rattle.catalogue.specs.One.{Run, ends, next, stops}
 
@@ -102,7 +102,7 @@ taken_apart : (m : Names) (s : List ℕ) → TakenIn m s → FreeIn m s → ⊥
 taken_apart m s (inl k) (n, f) = n k
 taken_apart m s (inr (z, g)) (n, f) = let e : Some z ≡ None = finds_one g f in let z : ◌≡◌ {A = ℕ} 0 1 = cc in never z
 
-result_one : {m : Names} {n : ℕ} {e d : LineMeaning} {m₁ m₂ : Names} {a b : Result ℕ Refusal} → e ≡ d → Result m n e m₁ a → Result m n d m₂ b → (m₁ ≡ m₂) × (a ≡ b)
+result_one : {m : Names} {n : ℕ} {e d : LineMeaning} {m₁ m₂ : Names} {a b : Result ℕ Refusal} → e ≡ d → CarriesOut m n e m₁ a → CarriesOut m n d m₂ b → (m₁ ≡ m₂) × (a ≡ b)
 result_one i (left_as {f = f}) (left_as {f = g}) = let j : f ≡ g = cc in (refl, ap Err j)
 result_one i left_as (added d u) = let z : ◌≡◌ {A = ℕ} 0 1 = cc in absurd (never z)
 result_one i (added d u) left_as = let z : ◌≡◌ {A = ℕ} 0 1 = cc in absurd (never z)

@@ -3,7 +3,7 @@
 -- shown of accepted calendars holds of it; no two of its names are equal (`catalogue_distinct`), and none is built in (`catalogue_apart`). A name is
 -- looked up as the catalogue says (`named_with`).
 -- Assumes nothing.
-use Rattle.std.specs.Prelude.{ℕ, zero, suc, ◌+◌, ◌≤◌, ◌<◌, ◌≡◌, refl, List, [], ◌∷◌, ◌++◌, length, ℤ, pos, Ok, Err, Option, Some, None}
+use Rattle.std.specs.Prelude.{ℕ, zero, suc, ◌+◌, ◌≤◌, ◌<◌, ◌≡◌, refl, List, [], ◌∷◌, ◌++◌, length, ℤ, pos, Result, Ok, Err, Option, Some, None}
 use Rattle.std.proofs.Common.{sym, ◌∙◌, ap, subst, append_assoc, append-nil, inl, inr, ⊎_elim, arith, not-suc-le-zero, length-append}
 use Rattle.std.proofs.Math.ListN.{get_or-append}
 use Rattle.std.proofs.Math.Seq.{get_or-append_seam}
@@ -34,7 +34,7 @@ use Rattle.houseline.specs.Laws.{fits_or_leaves}
 use Rattle.catalogue.specs.Catalogue as C
 use Rattle.catalogue.specs.Catalogue.{LineMeaning, holds, OfReformation, of_reformation, OfName, OfForm, leaves, of_form, OfLine, Named, Taken, LineMeans, Hold, Meaning, catalogue, refused_by, Means, all_hold, first_refused, NamesWith, of_house}
 use Rattle.catalogue.specs.Promise as R
-use Rattle.catalogue.specs.Promise.{TakenIn, FreeIn, Result, left_as, added, Adds, made_up, adds, HouseCalendar, NamesIn, held}
+use Rattle.catalogue.specs.Promise.{TakenIn, FreeIn, CarriesOut, left_as, added, Adds, made_up, adds, HouseCalendar, NamesIn, held}
 use Rattle.bytesearch.specs.One.{never}
 use Rattle.catalogue.proofs.One.{Run, ends, next, stops, means_one}
 use Rattle.ncal.specs.Laws.{same_or_other}
@@ -112,7 +112,7 @@ module _ {m : Names} {hs : List House} (g : Holds m hs) {l : List ℕ} where
   lined : {e : LineMeaning} → OfLine (TakenIn m) (FreeIn m) (length hs + 1) l e → LineMeans hs l e
   lined = line_map (taken_in g) (free_in g)
 
-  result_adds : {n k : ℕ} {e : LineMeaning} {m' : Names} {a : Result ℕ Refusal} → n ≡ length hs → a ≡ Ok k → OfLine (TakenIn m) (FreeIn m) (n + 1) l e → Result m n e m' a
+  result_adds : {n k : ℕ} {e : LineMeaning} {m' : Names} {a : Result ℕ Refusal} → n ≡ length hs → a ≡ Ok k → OfLine (TakenIn m) (FreeIn m) (n + 1) l e → CarriesOut m n e m' a
       → (h : House) × LineMeans hs l (holds h) × Holds m' (hs ++ (h ∷ [])) × (k ≡ length (hs ++ (h ∷ [])))
   result_adds i j o left_as = let z : ◌≡◌ {A = ℕ} 0 1 = cc in absurd (never z)
   result_adds {n} {k} i j o (added {s} {z} d u) =
@@ -135,7 +135,7 @@ module _ {m : Names} {hs : List House} (g : Holds m hs) {l : List ℕ} where
       → (h : House) × LineMeans hs l (holds h) × Holds m' (hs ++ (h ∷ [])) × (k ≡ length (hs ++ (h ∷ [])))
   adds_holds i w = adds_holds' i refl w
 
-  result_refused : {n : ℕ} {e : LineMeaning} {m' : Names} {a : Result ℕ Refusal} {f : Refusal} → n ≡ length hs → a ≡ Err f → OfLine (TakenIn m) (FreeIn m) (n + 1) l e → Result m n e m' a → LineMeans hs l (C.refuses f) × (m' ≡ m)
+  result_refused : {n : ℕ} {e : LineMeaning} {m' : Names} {a : Result ℕ Refusal} {f : Refusal} → n ≡ length hs → a ≡ Err f → OfLine (TakenIn m) (FreeIn m) (n + 1) l e → CarriesOut m n e m' a → LineMeans hs l (C.refuses f) × (m' ≡ m)
   result_refused {n} {f = f} i j o (left_as {f = q}) =
       let p : q ≡ f = cc in
       (lined (subst (λ (x : ℕ). OfLine (TakenIn m) (FreeIn m) (x + 1) l (C.refuses f)) i (subst (λ (x : Refusal). OfLine (TakenIn m) (FreeIn m) (n + 1) l (C.refuses x)) p o)), refl)
@@ -245,7 +245,7 @@ catalogue_apart p = (means_sound p).house_names
 pub names_with_one : {input : List ℕ} {hs : List House} → Means input (catalogue hs) → (s : List ℕ) → One (NamesWith hs s)
 names_with_one {hs = hs} p s a b (C.built_in (of_row x)) (C.built_in (of_row y)) = of_row_same x y
   where
-    of_row_same : {c d : Calendar} → InTable s c → InTable s d → Ok c ≡ Ok d
+    of_row_same : {c d : Calendar} → InTable s c → InTable s d → ◌≡◌ {A = Result Calendar Refusal} (Ok c) (Ok d)
     of_row_same x y = sym (named_row x (passes (_, y) (of_row y)))
 names_with_one p s a b (C.built_in (of_row x)) (of_house n k h e) = absurd (n (_, x))
 names_with_one p s a b (C.built_in (of_row x)) (C.unknown n o) = absurd (n (_, x))

@@ -30,17 +30,17 @@ IsTaken m s false = FreeIn m s
 
 -- ---- add_line: what a line comes to after n lines, and what is in the memory then
 
-pub data Result (m : Names) (n : ℕ) : LineMeaning → Names → Result ℕ Refusal → Type 0 where
-  left_as : {f : Refusal} → Result m n (refuses f) m (Err f)
-  added : {s : List ℕ} {z : ℤ} (d : ℕ) → unbias (2 ^ 31) d ≡ z → Result m n (holds (house s z)) (memory (entered m.slots n s) (linked m.links n (bucket_of_value s) d)) (Ok (n + 1))
+pub data CarriesOut (m : Names) (n : ℕ) : LineMeaning → Names → Result ℕ Refusal → Type 0 where
+  left_as : {f : Refusal} → CarriesOut m n (refuses f) m (Err f)
+  added : {s : List ℕ} {z : ℤ} (d : ℕ) → unbias (2 ^ 31) d ≡ z → CarriesOut m n (holds (house s z)) (memory (entered m.slots n s) (linked m.links n (bucket_of_value s) d)) (Ok (n + 1))
 
 pub data AddsHouse (m : Names) (n : ℕ) (s : List ℕ) (z : ℤ) : Names → Result ℕ Refusal → Type 0 where
-  adds_house : {e : LineMeaning} {m' : Names} {a : Result ℕ Refusal} → OfName (TakenIn m) (FreeIn m) (n + 1) s z e → Result m n e m' a → AddsHouse m n s z m' a
+  adds_house : {e : LineMeaning} {m' : Names} {a : Result ℕ Refusal} → OfName (TakenIn m) (FreeIn m) (n + 1) s z e → CarriesOut m n e m' a → AddsHouse m n s z m' a
 
 -- a count of more lines than there can be is made up, and refused 16
 pub data Adds (m : Names) (n : ℕ) (l : List ℕ) : Names → Result ℕ Refusal → Type 0 where
   made_up : most_lines < n → Adds m n l m (Err (refusal 16 0 (pos 0)))
-  adds : {e : LineMeaning} {m' : Names} {a : Result ℕ Refusal} → n ≤ most_lines → OfLine (TakenIn m) (FreeIn m) (n + 1) l e → Result m n e m' a → Adds m n l m' a
+  adds : {e : LineMeaning} {m' : Names} {a : Result ℕ Refusal} → n ≤ most_lines → OfLine (TakenIn m) (FreeIn m) (n + 1) l e → CarriesOut m n e m' a → Adds m n l m' a
 
 -- ---- named: the calendar that is built in, the one that is held, or 19; 16 where what is held is no reformation, which no catalogue leaves behind
 

@@ -4,14 +4,13 @@
 
 #![tactic(auto)]
 
-ghost use Rattle.std.specs.Prelude.{◌≤◌, ◌<◌, ◌^◌, ◌≡◌, pos, length, take};
+ghost use Rattle.std.specs.Prelude.{◌≤◌, ◌<◌, ◌^◌, ◌≡◌, pos, length};
 ghost use Rattle.refusals.specs.Promise.{refusal};
 ghost use Rattle.nametable.specs.Limits.{most_lines, most_name};
-ghost use Rattle.nametable.specs.Promise.{Enters};
 ghost use Rattle.catalogue.specs.Promise.{IsTaken, AddsHouse, Adds, HouseCalendar, NamesIn};
 
 use calendar::Calendar;
-use houseline::HouseLine;
+use houseline::{House, NoHouse};
 pub use nametable::{LINES, NAME, Names};
 use refusals::{Refusal, refusal_at};
 
@@ -21,32 +20,8 @@ fn is_taken(names: &Names, name: &[u8]) -> bool
 {
     match ncal::look_up(name) {
         ncal::Found::Calendar(_) => true,
-        ncal::Found::Nothing => match names.find(name) {
-            Some(_) => true,
-            None => false,
-        },
+        ncal::Found::Nothing => names.find(name).is_some(),
     }
-}
-
-// The name is the front of the line. It is lent in a function of its own.
-fn front_taken(names: &Names, line: &[u8], end: usize) -> bool
-    requires { end ≤ length line.now }
-    ensures { IsTaken names.now (take end line.now) result }
-{
-    is_taken(names, &line[..end])
-}
-
-fn enter_front(
-    names: &mut Names,
-    k: usize,
-    line: &[u8],
-    end: usize,
-    r: i32,
-) -> bool
-    requires { end ≤ length line.now }
-    ensures { Enters names.old k (take end line.now) r names.new result }
-{
-    names.enter(k, &line[..end], r)
 }
 
 // 11 or 28, of line n: the place in the line, at which its number leaves 32 bits, is the value.
@@ -61,42 +36,34 @@ fn refused_number(n: usize, f: Refusal) -> Refusal
 fn refused_reformation(number: u32, n: usize, r: i32) -> Refusal
     ensures { result ≡ refusal number n r }
 {
-    let value = whole::widened(r);
     Refusal {
-        number: number,
+        number,
         place: n,
-        value: value,
+        value: whole::widened(r),
     }
 }
 
-// A line that has the form, and whose number fits: its name ends at `end`.
+// A line that has the form, and whose number fits.
 #[tactic(auto, using(crate::proofs::Laws::house_over_told))]
-fn add_house(
-    names: &mut Names,
-    count: usize,
-    line: &[u8],
-    end: usize,
-    r: i32,
-) -> Result<usize, Refusal>
-    requires { (count ≤ most_lines) × ((end ≤ length line.now) × (end ≤ most_name)) }
-    ensures { AddsHouse names.old count (take end line.now) r names.new result }
+fn add_house(names: &mut Names, count: usize, name: &[u8], r: i32) -> Result<usize, Refusal>
+    requires { (count ≤ most_lines) × (length name.now ≤ most_name) }
+    ensures { AddsHouse names.old count name.now r names.new result }
 {
-    if front_taken(names, line, end) {
+    if is_taken(names, name) {
         return Err(refusal_at(23, count + 1, 0));
     }
     if LINES <= count {
         return Err(refusal_at(24, count + 1, 0));
     }
-    match switches::reformation::judge(r) {
-        Err(number) => Err(refused_reformation(number, count + 1, r)),
-        Ok(_) => {
-            enter_front(names, count, line, end, r);
-            Ok(count + 1)
-        }
+    if let Err(why) = switches::reformation::judge(r) {
+        return Err(refused_reformation(why.number(), count + 1, r));
     }
+    names.enter(count, name, r);
+    Ok(count + 1)
 }
 
-// One line more. The first that is refused refuses the whole catalogue, so every line before this one is held, and `count` tells how many they are.
+// One line more: how many lines are held then, or why the line is refused, in which case the place is its number, from 1. The first that is refused
+// refuses the whole catalogue, so every line before this one is held, and `count` tells how many they are.
 pub fn add_line(names: &mut Names, count: usize, line: &[u8]) -> Result<usize, Refusal>
     ensures { Adds names.old count line.now names.new result }
 {
@@ -104,9 +71,9 @@ pub fn add_line(names: &mut Names, count: usize, line: &[u8]) -> Result<usize, R
         return Err(refusal_at(16, 0, 0));
     }
     match houseline::read_line(line) {
-        HouseLine::Malformed => Err(refusal_at(22, count + 1, 0)),
-        HouseLine::Outside(f) => Err(refused_number(count + 1, f)),
-        HouseLine::House(end, r) => add_house(names, count, line, end, r),
+        Err(NoHouse::Malformed) => Err(refusal_at(22, count + 1, 0)),
+        Err(NoHouse::Outside(f)) => Err(refused_number(count + 1, f)),
+        Ok(House { name_end, number }) => add_house(names, count, &line[..name_end], number),
     }
 }
 
@@ -126,9 +93,6 @@ pub fn named(names: &Names, name: &[u8]) -> Result<Calendar, Refusal>
 {
     match ncal::look_up(name) {
         ncal::Found::Calendar(calendar) => Ok(calendar),
-        ncal::Found::Nothing => match names.find(name) {
-            Some(r) => house_calendar(r),
-            None => Err(refusal_at(19, 0, 0)),
-        },
+        ncal::Found::Nothing => house_calendar(names.find(name).ok_or(refusal_at(19, 0, 0))?),
     }
 }

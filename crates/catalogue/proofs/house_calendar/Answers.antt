@@ -5,7 +5,7 @@ use mir.Syntax.{w32}
 use Rattle.catalogue.proofs.house_calendar.Goals as goal
 
 pub returns-in-Ok : goal.returns-in-Ok
-returns-in-Ok c = house_accepted (to_z-of_z {w = w32} c.ranges.r) (rw c.in-Ok.is at c.judge.ensures)
+returns-in-Ok c = house_accepted (to_z-of_z {w = w32} c.ranges.r) c.in-Ok.ensures
 
 pub returns-in-Err : goal.returns-in-Err
-returns-in-Err c = house_refused (to_z-of_z {w = w32} c.ranges.r) (rw c.in-Err.is at c.judge.ensures) c.refusal_at.ensures
+returns-in-Err c = house_refused (to_z-of_z {w = w32} c.ranges.r) c.in-Err.ensures c.refusal_at.ensures
