@@ -27,10 +27,8 @@ fn read_rest(
         lines: reached.lines,
         held: reached.held,
     };
-    match catalogueread::read_block(names, line, rest, from) {
-        Err(why) => Err(why),
-        Ok(p) => catalogueread::read_last(names, line, p.lines, p.held),
-    }
+    let p = catalogueread::read_block(names, line, rest, from)?;
+    catalogueread::read_last(names, line, p.lines, p.held)
 }
 
 // As two blocks, the first of `cut` bytes.
@@ -43,10 +41,8 @@ fn read_cut(file: &[u8], cut: usize, names: &mut Names) -> Result<usize, Refusal
         lines: 0,
         held: 0,
     };
-    match catalogueread::read_block(names, &mut line, &file[..cut], start) {
-        Err(why) => Err(why),
-        Ok(p) => read_rest(&file[cut..], p, names, &mut line),
-    }
+    let p = catalogueread::read_block(names, &mut line, &file[..cut], start)?;
+    read_rest(&file[cut..], p, names, &mut line)
 }
 
 // ---- The same catalogue cut in two
@@ -62,16 +58,15 @@ fn same_answer(a: Result<usize, Refusal>, b: Result<usize, Refusal>) -> bool {
 }
 
 fn same_memory(names: &Names, other: &Names) -> bool {
-    links == other_links && names == other_names
+    names.slots == other.slots && names.links == other.links
 }
 
 fn is_same(file: &[u8], cut: usize, names: &Names, expected: Result<usize, Refusal>) -> bool
     requires { cut ≤ length file.now }
 {
-    let mut other_names = [0u8; NAME_BYTES];
-    let mut other_links = [0u32; LINK_COUNT];
-    let answer = read_cut(file, cut, &mut other_names, &mut other_links);
-    same_answer(answer, expected) && same_memory(names, &other_names, &other_links)
+    let mut other = Names::new();
+    let answer = read_cut(file, cut, &mut other);
+    same_answer(answer, expected) && same_memory(names, &other)
 }
 
 // A short catalogue is cut before each of its bytes; a long one before some, and before each of the last.
@@ -162,8 +157,7 @@ fn answer_all(rt: &HostRuntime, input: &[u8]) {
     while at < input.len() {
         let kind = input[at];
         if kind == b'c' {
-            names = [0u8; NAME_BYTES];
-            links = [0u32; LINK_COUNT];
+            names = Names::new();
         }
         let piece = pieces::piece_at(input, at + 1);
         answer_piece(

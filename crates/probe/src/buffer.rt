@@ -2,7 +2,6 @@
 use crate::reply::Reply;
 use crate::{put, query, reply};
 use calendar::Date;
-use query::Head;
 use refusals::Refusal;
 
 fn written(reply: Reply, answer: Result<usize, Refusal>) -> Reply {
@@ -44,16 +43,17 @@ fn lend(out: &mut [u8], at: usize, size: usize, what: u8, date: Date) -> Reply {
 }
 
 fn date_of(line: &[u8], at: usize) -> Result<Date, Refusal> {
-    match query::calendar_at(line, at) {
-        Head::Refused(why) => Err(why),
-        Head::Calendar(calendar, next) => {
-            let asked = query::date_at(calendar, line, next);
-            asked.answer
-        }
-    }
+    let (calendar, next) = query::calendar_at(line, at)?;
+    query::date_at(calendar, line, next).answer
 }
 
-fn lend_for(out: &mut [u8], at: usize, size: u32, what: u8, answer: Result<Date, Refusal>) -> Reply {
+fn lend_for(
+    out: &mut [u8],
+    at: usize,
+    size: u32,
+    what: u8,
+    answer: Result<Date, Refusal>,
+) -> Reply {
     match answer {
         Err(why) => reply::refused(why),
         Ok(date) => lend(out, at, size as usize, what, date),

@@ -3,8 +3,8 @@
 use crate::reply::Reply;
 use crate::{reply, walk};
 use calendar::{Calendar, Date};
-use walker::Walker;
 use refusals::Refusal;
+use walker::Walker;
 
 // ---- Values
 

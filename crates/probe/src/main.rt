@@ -11,9 +11,9 @@ mod text;
 mod walk;
 
 use calendar::{Calendar, Date};
-use query::{Head, Numbers};
-use reply::Reply;
+use query::Numbers;
 use refusals::Refusal;
+use reply::Reply;
 
 // ---- Queries about a calendar
 
@@ -115,8 +115,8 @@ fn unix(answer: Result<(Date, u32), Refusal>) -> Reply {
 // The second calendar of a query stands after its date.
 fn to_calendar(date: Date, line: &[u8], at: usize) -> Reply {
     match query::calendar_at(line, at) {
-        Head::Refused(why) => reply::refused(why),
-        Head::Calendar(to, _) => reply::dated(date.convert_to(to)),
+        Err(why) => reply::refused(why),
+        Ok((to, _)) => reply::dated(date.convert_to(to)),
     }
 }
 
@@ -211,8 +211,8 @@ fn with_calendar(calendar: Calendar, line: &[u8], from: usize) -> Reply {
 
 fn of_calendar(line: &[u8], from: usize) -> Reply {
     match query::calendar_at(line, from) {
-        Head::Refused(why) => reply::refused(why),
-        Head::Calendar(calendar, next) => with_calendar(calendar, line, next),
+        Err(why) => reply::refused(why),
+        Ok((calendar, next)) => with_calendar(calendar, line, next),
     }
 }
 

@@ -1,13 +1,6 @@
 // The fields of a query, which tabs part. A number that is missing counts as 0.
 use calendar::{Calendar, Date, Refusal, Style};
 
-// The calendar of a query and where the fields after it begin.
-#[derive(Clone, Copy)]
-pub enum Head {
-    Calendar(Calendar, usize),
-    Refused(Refusal),
-}
-
 // The date of a query and where the fields after it begin.
 #[derive(Clone, Copy)]
 pub struct Asked {
@@ -81,18 +74,9 @@ pub fn numbers_at(line: &[u8], at: usize) -> Numbers {
 
 // ---- Calendars and dates
 
-fn reformed(answer: Result<Calendar, Refusal>, next: usize) -> Head {
-    match answer {
-        Ok(calendar) => Head::Calendar(calendar, next),
-        Err(why) => Head::Refused(why),
-    }
-}
-
-fn reforming_at(line: &[u8], at: usize, next: usize) -> Head {
-    match numbertext::signed_at(line, at) {
-        Ok((r, _)) => reformed(Calendar::reforming(r), next),
-        Err(why) => Head::Refused(why),
-    }
+fn reforming_at(line: &[u8], at: usize) -> Result<Calendar, Refusal> {
+    let (r, _) = numbertext::signed_at(line, at)?;
+    Calendar::reforming(r)
 }
 
 // The day of a reformation that nothing has looked at, after its mark.
@@ -104,14 +88,19 @@ fn made_up_calendar(line: &[u8], at: usize) -> Calendar {
 }
 
 // A calendar is `J`, `G`, or the day of its reformation.
-pub fn calendar_at(line: &[u8], at: usize) -> Head {
-    let next = after_tab(line, at);
+fn only_calendar_at(line: &[u8], at: usize) -> Result<Calendar, Refusal> {
     match byte_at(line, at) {
-        b'J' => Head::Calendar(Calendar::JULIAN, next),
-        b'G' => Head::Calendar(Calendar::GREGORIAN, next),
-        b'?' => Head::Calendar(made_up_calendar(line, at), next),
-        _ => reforming_at(line, at, next),
+        b'J' => Ok(Calendar::JULIAN),
+        b'G' => Ok(Calendar::GREGORIAN),
+        b'?' => Ok(made_up_calendar(line, at)),
+        _ => reforming_at(line, at),
     }
+}
+
+// The calendar, and where the next field begins.
+pub fn calendar_at(line: &[u8], at: usize) -> Result<(Calendar, usize), Refusal> {
+    let calendar = only_calendar_at(line, at)?;
+    Ok((calendar, after_tab(line, at)))
 }
 
 fn style_at(line: &[u8], at: usize) -> Style {

@@ -17,9 +17,7 @@ fn number(answer: Result<(u32, usize), Refusal>) -> Reply {
 fn signed(answer: Result<(i32, usize), Refusal>) -> Reply {
     match answer {
         Err(why) => reply::refused(why),
-        Ok((x, next)) => {
-            reply::place(reply::number(reply::none(), whole::widened(x)), next)
-        }
+        Ok((x, next)) => { reply::place(reply::number(reply::none(), whole::widened(x)), next) }
     }
 }
 
@@ -102,23 +100,27 @@ pub fn at(line: &[u8], from: usize) -> Reply {
 
 // ---- A whole text
 
-fn said(answer: Text) -> Reply {
+fn said(answer: Result<Text, Refusal>) -> Reply {
     match answer {
         Err(why) => reply::refused(why),
-        Text::Ordinal {
-            year,
-            ordinal,
-            place,
-        } => {
+        Ok(
+            Text::Ordinal {
+                year,
+                ordinal,
+                place,
+            },
+        ) => {
             let a = reply::number(reply::none(), whole::widened(year));
             reply::place(reply::count(a, ordinal), place)
         }
-        Text::Ymd {
-            year,
-            month,
-            day,
-            place,
-        } => {
+        Ok(
+            Text::Ymd {
+                year,
+                month,
+                day,
+                place,
+            },
+        ) => {
             let a = reply::number(reply::none(), whole::widened(year));
             let b = reply::count(reply::count(a, month), day);
             reply::place(b, place)

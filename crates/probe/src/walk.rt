@@ -5,8 +5,8 @@ ghost use Rattle.walker.specs.Promise.{Steps};
 use crate::reply;
 use crate::reply::Reply;
 use calendar::Date;
-use walker::{Kind, Moved, Walker};
 use refusals::Refusal;
+use walker::{Kind, Moved, Walker};
 
 // The walker is lent to one step.
 pub fn lent(walker: Walker) -> Moved
