@@ -49,9 +49,7 @@ pub fn next(
 pub fn with_output(state: State, used: usize) -> State
     ensures { result ≡ with_output_value state used }
 {
-    let mut s = state;
-    s.used = used;
-    s
+    State { used, ..state }
 }
 
 // The next line of the block's first bytes, from an offset on.
