@@ -1,7 +1,12 @@
 -- Bytes passed one after another.
-use Rattle.std.specs.Prelude.{ℕ, suc, ◌+◌, ◌≤◌, ◌<◌, ◌≡◌, refl, List, [], ◌∷◌, ◌++◌, length, get_or, drop}
-use Rattle.std.proofs.Common.{sym, ◌∙◌, ap, subst, append_assoc, append-nil, arith, length-append, length-drop, drop-cons}
+use Rattle.std.specs.Prelude.{ℕ, zero, suc, ◌+◌, ◌≤◌, ◌<◌, ◌≡◌, refl, List, [], ◌∷◌, ◌++◌, length, get_or, take, drop, ◌==◌, not, position, unwrap_or}
+use Rattle.std.specs.List.{position_or_len}
+use Rattle.std.proofs.Common.{sym, ◌∙◌, ap, subst, append_assoc, append-nil, add-zero, arith, length-append, length-take, length-drop, drop-cons}
 use Rattle.std.specs.Int.Bits.{bit_or, or_add_and}
+use Rattle.std.proofs.lemmas.Bool.{eqb-true, eqb-false}
+use Rattle.std.proofs.lemmas.Bool.Decides.{nat_tests}
+use Rattle.std.proofs.lemmas.List.{get_or-take, get_or-drop}
+use Rattle.std.proofs.lemmas.List.Sums.{prefix_len-le-length, fails_before_first, passes_at_first}
 use Rattle.std.proofs.lemmas.Nat.{and_le_l, and_le_r}
 use Rattle.bytesearch.specs.Promise.{Without, UpTo}
 
@@ -67,40 +72,49 @@ pub record InFour (b : ℕ) (s : List ℕ) (at k : ℕ) : Type 0 where
   pub few : k ≤ 4
   pub found : k < 4 → get_or s (at + k) 0 ≡ b
 
-pub in_four_first : {b : ℕ} {s : List ℕ} {at : ℕ} → get_or s at 0 ≡ b → InFour b s at 0
-in_four_first {b} {s} {at} e = record { going = subst (Going b s at) none (going_start b s at); few = omega arith; found = λ h. ap (λ (i : ℕ). get_or s i 0) (sym none) ∙ e }
-  where
-    none : at ≡ at + 0
-    none = omega arith
+one_on : (i k : ℕ) → i + k + 1 ≡ i + suc k
+one_on i k = omega arith
 
-pub in_four_at : {b : ℕ} {s : List ℕ} {at k : ℕ} → Going b s at (at + k) → k ≤ 4 → get_or s (at + k) 0 ≡ b → InFour b s at k
-in_four_at g h e = record { going = g; few = h; found = λ l. e }
+-- none of the k bytes from `at` on is b
+pub going_past : {b : ℕ} {s : List ℕ} {at : ℕ} (k : ℕ) → at + k ≤ length s → ((j : ℕ) → j < k → get_or s (at + j) 0 ≡ b → ⊥) → Going b s at (at + k)
+going_past {b} {s} {at} zero h n = subst (Going b s at) (sym (add-zero at)) (going_start b s at)
+going_past {b} {s} {at} (suc k) h n = subst (Going b s at) (one_on at k) (going_on (going_past k (omega arith) (λ j l. n j (omega arith))) (omega arith) (n k (omega arith)))
 
-pub in_four_none : {b : ℕ} {s : List ℕ} {at : ℕ} → Going b s at (at + 4) → InFour b s at 4
-in_four_none g = record { going = g; few = omega arith; found = λ h. absurd (never h) }
-  where
-    never : 4 < 4 → ⊥
-    never h = omega arith
+-- l is the four bytes from `at` on
+module _ (s : List ℕ) (at : ℕ) {l : List ℕ} (e : l ≡ take 4 (drop at s)) where
+  four_long : at + 4 ≤ length s → length l ≡ 4
+  four_long h = omega (arith, ap length e, length-take 4 (drop at s), length-drop at s)
 
--- the first bytes are passed one after another
+  four_byte : (j : ℕ) → j < 4 → get_or l j 0 ≡ get_or s (at + j) 0
+  four_byte j m = ap (λ (x : List ℕ). get_or x j 0) e ∙ get_or-take 4 (drop at s) j 0 m ∙ get_or-drop at s j 0
+
+  four_place : {b k : ℕ} → at + 4 ≤ length s → k ≡ position_or_len (λ x. x == b) l → InFour b s at k
+  four_place {b} {k} h f =
+      record {
+        going = going_past k (omega (arith, few)) (λ j m g. eqb-false (get_or l j 0) b (fails_before_first (λ x. x == b) l j 0 (omega arith)) (four_byte j (omega (arith, few)) ∙ g));
+        few = few;
+        found = λ m. sym (four_byte k m) ∙ ap (λ (i : ℕ). get_or l i 0) f ∙ eqb-true _ b (passes_at_first (λ x. x == b) l 0 (omega (arith, four_long h)));
+      }
+    where
+      few : k ≤ 4
+      few = omega (arith, f, four_long h, prefix_len-le-length (λ x. not (x == b)) l)
+
+  pub in_four_place : {b k : ℕ} → at + 4 ≤ length s → k ≡ unwrap_or (position (λ x. x == b) l) 4 → InFour b s at k
+  in_four_place {b} h f = four_place h (f ∙ by (four_long h))
+    where
+      by : length l ≡ 4 → unwrap_or (position (λ x. x == b) l) 4 ≡ position_or_len (λ x. x == b) l
+      by n = grind (arith, nat_tests, prefix_len-le-length)
+
+-- the four are passed one after another
 module _ {b : ℕ} {s : List ℕ} {at : ℕ} (h : at + 4 ≤ length s) (n : get_or s at 0 ≡ b → ⊥) where
-  pub past_one : Going b s at (at + 1)
+  past_one : Going b s at (at + 1)
   past_one = going_on (going_start b s at) (omega arith) n
 
   next : (k : ℕ) → k < 4 → Going b s at (at + k) → (get_or s (at + k) 0 ≡ b → ⊥) → Going b s at (at + suc k)
-  next k l g m = subst (Going b s at) (sum at k) (going_on g (omega arith) m)
-    where
-      sum : (i k : ℕ) → i + k + 1 ≡ i + suc k
-      sum i k = omega arith
-
-  pub past_two : (get_or s (at + 1) 0 ≡ b → ⊥) → Going b s at (at + 2)
-  past_two m = next 1 (omega arith) past_one m
-
-  pub past_three : (get_or s (at + 1) 0 ≡ b → ⊥) → (get_or s (at + 2) 0 ≡ b → ⊥) → Going b s at (at + 3)
-  past_three m o = next 2 (omega arith) (past_two m) o
+  next k l g m = subst (Going b s at) (one_on at k) (going_on g (omega arith) m)
 
   pub past_four : (get_or s (at + 1) 0 ≡ b → ⊥) → (get_or s (at + 2) 0 ≡ b → ⊥) → (get_or s (at + 3) 0 ≡ b → ⊥) → Going b s at (at + 4)
-  past_four m o p = next 3 (omega arith) (past_three m o) p
+  past_four m o p = next 3 (omega arith) (next 2 (omega arith) (next 1 (omega arith) past_one m) o) p
 
 -- b is among the four bytes, or all four are passed
 module _ {b : ℕ} {s : List ℕ} {from i k : ℕ} (g : Going b s from i) (f : InFour b s i k) where

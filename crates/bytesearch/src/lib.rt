@@ -3,7 +3,7 @@
 
 #![tactic(auto)]
 
-ghost use Rattle.std.specs.Prelude.{◌+◌, ◌<◌, ◌≤◌, length, ◌≡◌};
+ghost use Rattle.std.specs.Prelude.{◌+◌, ◌<◌, ◌≤◌, length, ◌≡◌, ◌==◌, position};
 ghost use Rattle.bytesearch.specs.Promise.{UpTo};
 ghost use Rattle.bytesearch.specs.Laws.{InFour, Eights, Going, Sixteens};
 
@@ -21,34 +21,26 @@ fn next_to(s: &[u8], from: usize, b: u8) -> usize
     i
 }
 
+// Where the first `b` is.
+fn first(s: &[u8], b: u8) -> Option<usize>
+    ensures { result ≡ position (λ x. x == b) s.now }
+{
+    s.iter().position(|x| *x == b)
+}
+
 // How many of the four bytes from `at` on come before the first `b`.
 fn in_four(s: &[u8], at: usize, b: u8) -> usize
     requires { at + 4 ≤ length s.now }
     ensures { InFour b s.now at result }
 {
-    if s[at] == b {
-        return 0;
-    }
-    if s[at + 1] == b {
-        return 1;
-    }
-    if s[at + 2] == b {
-        return 2;
-    }
-    if s[at + 3] == b {
-        return 3;
-    }
-    4
+    first(&s[at..at + 4], b).unwrap_or(4)
 }
 
 // Every offset before this one has eight bytes from there on.
 fn eights_end(len: usize) -> usize
     ensures { Eights len result }
 {
-    if len < 7 {
-        return 0;
-    }
-    len - 7
+    len.saturating_sub(7)
 }
 
 // The offset of the first `b` from `from` on, or of the end; `from` itself where that lies past the end. Eight bytes are looked at together.
@@ -77,10 +69,7 @@ pub fn by_eights(s: &[u8], from: usize, b: u8) -> usize
 fn one(x: u8, b: u8) -> u8
     ensures { result ≡ 0 → x ≡ b → ⊥ }
 {
-    if x == b {
-        return 1;
-    }
-    0
+    u8::from(x == b)
 }
 
 // 0 where `b` is not among the four bytes from `at` on.
@@ -103,10 +92,7 @@ fn any_sixteen(s: &[u8], at: usize, b: u8) -> u8
 fn sixteens_end(len: usize) -> usize
     ensures { Sixteens len result }
 {
-    if len < 15 {
-        return 0;
-    }
-    len - 15
+    len.saturating_sub(15)
 }
 
 // The same as `by_eights`, for a byte that may be far: sixteen are looked at together.

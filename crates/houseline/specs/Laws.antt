@@ -1,12 +1,14 @@
 -- What the proofs need: the parts of a line, where its name ends, its digits, and its number in 32 bits.
 use Rattle.std.specs.Prelude.{ℕ, zero, suc, ◌+◌, ◌≤◌, ◌<◌, ◌^◌, ◌≡◌, refl, Bool, true, false, List, [], ◌∷◌, ◌++◌, ◌⊎◌, length, get_or, take, drop, ℤ, pos, neg_ℤ, Result, Ok, Err, MatchResult, IsErrAnd}
 use Rattle.std.proofs.Common.{sym, ◌∙◌, ap, ap₂, subst, append_assoc, append-nil, inl, inr, ⊎_elim, arith, length-append, length-drop, take_at, drop_at, drop-cons, take-suc, get_or-take, length-take-le, to_z, of_z, to_z-of_z}
+use Rattle.std.specs.Bool.{MatchBool}
+use Rattle.std.specs.Char.{IsAsciiDigit, IsNotAsciiDigit}
 use Rattle.std.specs.Int.{w32}
+use Rattle.std.specs.List.{AllWithin, HoldsAt}
 use Rattle.whole.specs.Tests.{lt_or_ge}
 use Rattle.whole.specs.Whether.{Whether}
 use Rattle.nametable.specs.Limits.{most_name}
 use Rattle.bytesearch.specs.Promise.{Without, UpTo}
-use Rattle.bytesearch.specs.Laws.{none_left}
 use Rattle.bytesearch.specs.One.{never, parted_one, never_parted}
 use Rattle.digits.specs.Numerals.{dash, Digit, Digits, Numeral, Stops, value_of}
 use Rattle.refusals.specs.declared.Refusal.{Refusal}
@@ -59,25 +61,39 @@ letter_last underscore g = refl
 abbrev pub Lettered : List ℕ → ℕ → Type 0
 Lettered s n = Letters (take n s)
 
-letters_snoc : {s : List ℕ} {b : ℕ} → Letters s → Letter b → Letters (s ++ (b ∷ []))
-letters_snoc Letters.none l = Letters.more l Letters.none
-letters_snoc (Letters.more k ks) l = Letters.more k (letters_snoc ks l)
+-- ---- each byte of s was looked at, up to the first that is no P: `Ps s` says that each is P
 
-pub lettered_on : (s : List ℕ) (i : ℕ) → i < length s → Lettered s i → Letter (get_or s i 0) → Lettered s (i + 1)
-lettered_on s i h w l = let e : suc i ≡ i + 1 = omega arith in subst (Lettered s) e (subst Letters (sym (take-suc s i 0 h)) (letters_snoc w l))
+module _ {P : ℕ → Type 0} {Ps : List ℕ → Type 0} (none : Ps []) (more : (b : ℕ) (s : List ℕ) → P b → Ps s → Ps (b ∷ s)) (parts : (b : ℕ) (s : List ℕ) → Ps (b ∷ s) → P b × Ps s) where
+  from_each : (s : List ℕ) → ((k : ℕ) → k < length s → P (get_or s k 0)) → Ps s
+  from_each [] f = none
+  from_each (b ∷ s) f = more b s (f 0 (omega arith)) (from_each s (λ k h. f (suc k) (omega arith)))
 
-letters_at : {s : List ℕ} (i : ℕ) → i < length s → Letters s → Letter (get_or s i 0)
-letters_at i h Letters.none = absurd (omega arith)
-letters_at zero h (Letters.more l ls) = l
-letters_at (suc i) h (Letters.more l ls) = letters_at i (omega arith) ls
+  to_each : (s : List ℕ) (k : ℕ) → k < length s → Ps s → P (get_or s k 0)
+  to_each [] k h p = absurd (omega arith)
+  to_each (b ∷ s) zero h p = (parts b s p).0
+  to_each (b ∷ s) (suc k) h p = to_each s k (omega arith) (parts b s p).1
 
-pub lettered_not : (s : List ℕ) (n i : ℕ) → n ≤ length s → i < n → ¬ Letter (get_or s i 0) → ¬ Lettered s n
-lettered_not s n i h k o w =
-    let e : length (take n s) ≡ n = length-take-le n s h in
-    o (subst Letter (get_or-take n s i 0 k) (letters_at i (subst (λ (x : ℕ). i < x) (sym e) k) w))
+  told : (s : List ℕ) (r : Bool) → MatchBool r (AllWithin P s 0 (length s)) ((k : ℕ) × (k < length s) × HoldsAt (λ b. ¬ P b) s k) → Whether (Ps s) r
+  told s true f = from_each s (λ k h. f k 0 (omega arith) h)
+  told s false (k, h, o) = λ p. o 0 (to_each s k h p)
 
-pub lettered_end : (s : List ℕ) {i end : ℕ} → i ≤ end → end ≤ i → Lettered s i → Lettered s end
-lettered_end s {i} {end} h k w = let e : i ≡ end = omega arith in subst (Lettered s) e w
+letters_parts : (b : ℕ) (s : List ℕ) → Letters (b ∷ s) → Letter b × Letters s
+letters_parts b s (Letters.more l ls) = (l, ls)
+
+digits_parts : (b : ℕ) (s : List ℕ) → Digits (b ∷ s) → Digit b × Digits s
+digits_parts b s (Digits.more d ds) = (d, ds)
+
+pub letters_told : (s : List ℕ) (r : Bool) → MatchBool r (AllWithin Letter s 0 (length s)) ((k : ℕ) × (k < length s) × HoldsAt (λ b. ¬ Letter b) s k) → Whether (Letters s) r
+letters_told s r = told Letters.none (λ b t. Letters.more) letters_parts s r
+
+pub digits_told : (s : List ℕ) (r : Bool) → MatchBool r (AllWithin Digit s 0 (length s)) ((k : ℕ) × (k < length s) × HoldsAt (λ b. ¬ Digit b) s k) → Whether (Digits s) r
+digits_told s r = told Digits.none (λ b t. Digits.more) digits_parts s r
+
+pub is_digit : {b : ℕ} → IsAsciiDigit b → Digit b
+is_digit h = record { low = h.0; high = h.1 }
+
+pub no_digit : {b : ℕ} → IsNotAsciiDigit b → ¬ Digit b
+no_digit h d = omega (arith, d.low, d.high, h)
 
 pub not_low : {b : ℕ} → Digit b → b < 48 → ⊥
 not_low d h = omega (arith, d.low)
@@ -107,6 +123,10 @@ pub record Numerals (p : List ℕ) : Type 0 where
   pub some : 0 < length p
   pub digits : Digits p
 
+pub numerals_told : (s : List ℕ) (r : Bool) → 0 < length s → Whether (Digits s) r → Whether (Numerals s) r
+numerals_told s true h d = record { some = h; digits = d }
+numerals_told s false h o = λ n. o n.digits
+
 abbrev pub IsWritten : List ℕ → Type 0
 IsWritten u = (z : ℤ) × Written u z
 
@@ -129,38 +149,6 @@ written_numerals e (Written.with_dash {p = q} w) (bare o) = absurd (o q (sym e))
 
 pub not_written : {u p : List ℕ} → DigitsFrom u p → ¬ Numerals p → ¬ IsWritten u
 not_written d o (z, w) = o (written_numerals refl w d)
-
--- a loop along the digits, from `from` to i
-pub record Along (s : List ℕ) (from i : ℕ) : Type 0 where
-  pub inside : from ≤ i
-  pub within : i ≤ length s
-  pub rest : Digits (drop i s) → Digits (drop from s)
-  pub back : Digits (drop from s) → Digits (drop i s)
-
-pub along_start : (s : List ℕ) (from : ℕ) → from ≤ length s → Along s from from
-along_start s from h = record { inside = omega arith; within = h; rest = λ d. d; back = λ d. d }
-
-digits_head : {b : ℕ} {s : List ℕ} → Digits (b ∷ s) → Digit b × Digits s
-digits_head (Digits.more d ds) = (d, ds)
-
-module _ {s : List ℕ} {from i : ℕ} (a : Along s from i) where
-  module _ (h : i < length s) where
-    here : drop i s ≡ get_or s i 0 ∷ drop (i + 1) s
-    here = let e : suc i ≡ i + 1 = omega arith in drop-cons s i 0 h ∙ ap (λ (k : ℕ). get_or s i 0 ∷ drop k s) e
-
-    pub along_digit : Digits (drop from s) → Digit (get_or s i 0)
-    along_digit d = (digits_head (subst Digits here (a.back d))).0
-
-    pub along_on : 48 ≤ get_or s i 0 → get_or s i 0 ≤ 57 → Along s from (i + 1)
-    along_on l k = record {
-      inside = omega (arith, a.inside);
-      within = omega arith;
-      rest = λ d. a.rest (subst Digits (sym here) (Digits.more (record { low = l; high = k }) d));
-      back = λ d. (digits_head (subst Digits here (a.back d))).1;
-    }
-
-  pub along_done : length s ≤ i → from < length s → Numerals (drop from s)
-  along_done h k = record { some = omega (arith, length-drop from s); digits = a.rest (subst Digits (sym (none_left (drop i s) (omega (arith, length-drop i s)))) Digits.none) }
 
 pub numerals_some : (s : List ℕ) (from : ℕ) → length s ≤ from → ¬ Numerals (drop from s)
 numerals_some s from h n = omega (arith, n.some, length-drop from s)

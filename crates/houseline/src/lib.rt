@@ -36,15 +36,7 @@ fn only_letters(line: &[u8], end: usize) -> bool
     requires { end ≤ length line.now }
     ensures { Whether (Lettered line.now end) result }
 {
-    let mut i: usize = 0;
-    while i < end {
-        if is_letter(line[i]) {
-            i += 1;
-        } else {
-            return false;
-        }
-    }
-    true
+    line[..end].iter().all(|b| is_letter(*b))
 }
 
 fn is_name(line: &[u8], end: usize) -> bool
@@ -81,18 +73,7 @@ fn only_digits(line: &[u8], from: usize) -> bool
     if line.len() <= from {
         return false;
     }
-    let mut i = from;
-    while i < line.len() {
-        let b = line[i];
-        if b < 48 {
-            return false;
-        }
-        if 57 < b {
-            return false;
-        }
-        i += 1;
-    }
-    true
+    line[from..].iter().all(|b| b.is_ascii_digit())
 }
 
 fn is_number(line: &[u8], at: usize) -> bool

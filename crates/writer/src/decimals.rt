@@ -10,7 +10,7 @@ pub fn width(n: u64) -> usize
     let mut rest = n;
     let mut k: usize = 0;
     while 10_000 <= rest {
-        rest = rest / 10_000;
+        rest /= 10_000;
         k += 4;
     }
     if rest < 10 {

@@ -18,11 +18,9 @@ fn put_digits(buf: &mut [u8], at: usize, n: u64, k: usize) -> usize
     ensures { PutText buf.old at (digits_of k n) buf.new result }
 {
     let mut rest = n;
-    let mut left = k;
-    while 0 < left {
-        left -= 1;
-        buf[at + left] = (48 + rest % 10) as u8;
-        rest = rest / 10;
+    for i in (0..k).rev() {
+        buf[at + i] = b'0' + (rest % 10) as u8;
+        rest /= 10;
     }
     at + k
 }
