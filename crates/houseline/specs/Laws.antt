@@ -1,6 +1,6 @@
 -- What the proofs need: the parts of a line, where its name ends, its digits, and its number in 32 bits.
 use Rattle.std.specs.Prelude.{ℕ, zero, suc, ◌+◌, ◌≤◌, ◌<◌, ◌^◌, ◌≡◌, refl, Bool, true, false, List, [], ◌∷◌, ◌++◌, ◌⊎◌, length, get_or, take, drop, ℤ, pos, neg_ℤ, Result, Ok, Err, MatchResult, IsErrAnd}
-use Rattle.std.proofs.Common.{sym, ◌∙◌, ap, ap₂, subst, append_assoc, append-nil, inl, inr, ⊎_elim, arith, length-append, length-drop, take_at, drop_at, drop-cons, take-suc, get_or-take, length-take-le, to_z, of_z, to_z-of_z}
+use Rattle.std.proofs.Common.{sym, ◌∙◌, ap, ap₂, subst, append_assoc, append-nil, inl, inr, ⊎_elim, arith, length-append, length-drop, take_at, drop_at, drop-cons, length-take-le, to_z, of_z, to_z-of_z}
 use Rattle.std.specs.Bool.{MatchBool}
 use Rattle.std.specs.Char.{IsAsciiDigit, IsNotAsciiDigit}
 use Rattle.std.specs.Int.{w32}
