@@ -2,7 +2,6 @@
 -- Assumes nothing.
 use Rattle.std.specs.Prelude.{ℕ, ◌≤◌, ◌<◌, ◌≡◌, List, length, Result, Ok}
 use Rattle.std.proofs.Common.{subst, arith}
-use Rattle.textlines.specs.Laws.{rest_grows, line_grows}
 use Rattle.nametable.specs.Limits.{most_lines}
 use Rattle.nametable.specs.declared.Names.{Names}
 use Rattle.catalogueread.specs.Promise.{made_up_value, AddsHeld, ReadState, going, Reached, ReadsNext, ReadsBlock, ReadsLast}
@@ -13,10 +12,6 @@ Leads b s t = (e : Reached) → ReadsBlock b t e → ReadsBlock b s e
 
 pub leads_on : {b : List ℕ} {s t u : ReadState} → Leads b s t → t.at < length b → ReadsNext b t (going u) → Leads b s u
 leads_on g h w = λ e r. g e (ReadsBlock.goes_on h w r)
-
-pub next_grows : {b : List ℕ} {s t : ReadState} → ReadsNext b s (going t) → s.at < length b → s.at < t.at
-next_grows (ReadsNext.rest f) h = rest_grows f h
-next_grows (ReadsNext.line f g) h = line_grows f
 
 -- ---- the end of the file, where a line is held
 

@@ -4,8 +4,7 @@
 
 #![tactic(auto)]
 
-ghost use Rattle.std.specs.Prelude.{◌<◌, ◌≤◌, length, take};
-ghost use Rattle.catalogue.specs.Promise.{Adds};
+ghost use Rattle.std.specs.Prelude.{◌<◌, length};
 ghost use Rattle.catalogueread.specs.Promise.{AddsHeld, read_state, reached, ReadsNext, ReadsBlock, ReadsLast};
 
 use catalogue::{LINES, Names};
@@ -18,13 +17,6 @@ pub struct Progress {
     pub at: usize,
     pub lines: usize,
     pub held: usize,
-}
-
-fn add_front(names: &mut Names, lines: usize, line: &[u8], held: usize) -> Result<usize, Refusal>
-    requires { held ≤ length line.now }
-    ensures { Adds names.old lines (take held line.now) names.new result }
-{
-    catalogue::add_line(names, lines, &line[..held])
 }
 
 // The line that is held has ended.
@@ -40,7 +32,7 @@ fn add_held(
         return Err(refusal_at(16, 0, 0));
     }
     if held <= LONGEST_READ {
-        return add_front(names, lines, line, held);
+        return catalogue::add_line(names, lines, &line[..held]);
     }
     Err(refusal_at(22, lines + 1, 0))
 }
@@ -59,15 +51,12 @@ fn read_next(
     let end = bytesearch::by_eights(block, at, b'\n');
     let n = textlines::add_to_line(line, from.held, &block[at..end]);
     if end < block.len() {
-        let next = end + 1;
-        return match add_held(names, from.lines, line, n) {
-            Err(why) => Err(why),
-            Ok(lines) => Ok(Progress {
-                at: next,
-                lines,
-                held: 0,
-            }),
-        };
+        let lines = add_held(names, from.lines, line, n)?;
+        return Ok(Progress {
+            at: end + 1,
+            lines,
+            held: 0,
+        });
     }
     Ok(Progress {
         at: end,
@@ -76,7 +65,8 @@ fn read_next(
     })
 }
 
-// Reads the lines that end in a block, from an offset on, up to the first that is refused. A line that is held goes on in the next block.
+// Reads the lines that end in a block, from an offset on, up to the first that is refused: then the catalogue is refused, and nothing more is to be
+// read. A line that is held goes on in the next block.
 pub fn read_block(
     names: &mut Names,
     line: &mut [u8; LONGEST_READ],
@@ -87,12 +77,7 @@ pub fn read_block(
 {
     let mut p = from;
     while p.at < block.len() {
-        match read_next(names, line, block, p) {
-            Err(why) => return Err(why),
-            Ok(next) => {
-                p = next;
-            }
-        }
+        p = read_next(names, line, block, p)?;
     }
     Ok(p)
 }

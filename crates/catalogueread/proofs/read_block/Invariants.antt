@@ -1,7 +1,6 @@
 -- The loop's invariant is `Leads`: what is still to come leads from where the block was begun. The measure is what is left of the block.
 use Prim.Native.Nat.{◌-◌}
 use lib.ListN.{length}
-use Rattle.nametable.specs.Promise.{memory}
 use Rattle.catalogueread.specs.Promise.{read_state}
 use Rattle.catalogueread.specs.Laws.{Leads}
 use Rattle.catalogueread.proofs.read_block.Given as goal
