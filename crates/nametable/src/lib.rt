@@ -84,10 +84,8 @@ fn many(s: &[u8]) -> u64
 {
     let last = s.len() - 8;
     let mut h = s.len() as u64;
-    let mut i: usize = 0;
-    while i < last {
+    for i in (0..last).step_by(8) {
         h = mixed(h, word_at(s, i));
-        i += 8;
     }
     mixed(h, word_at(s, last))
 }
@@ -126,12 +124,10 @@ fn same_few(name: &[u8], slots: &[u8], from: usize) -> bool
     requires { from + length name.now ≤ length slots.now }
     ensures { Whether (Alike name.now slots.now from) result }
 {
-    let mut i = 0;
-    while i < name.len() {
-        if name[i] != slots[from + i] {
+    for (i, b) in name.iter().enumerate() {
+        if *b != slots[from + i] {
             return false;
         }
-        i += 1;
     }
     true
 }
