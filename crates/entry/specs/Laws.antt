@@ -1,6 +1,6 @@
 -- The parts of a line, and its answer where names come to the same in another way.
 -- Assumes nothing.
-use Rattle.std.specs.Prelude.{ℕ, ◌+◌, ◌-◌, ◌≤◌, ◌<◌, ◌≡◌, List, [], ◌∷◌, ◌++◌, length, take, drop, pos, Result, Ok, Err}
+use Rattle.std.specs.Prelude.{ℕ, min, ◌+◌, ◌-◌, ◌≤◌, ◌<◌, ◌≡◌, List, [], ◌∷◌, ◌++◌, length, take, drop, pos, Result, Ok, Err}
 use Rattle.std.proofs.Common.{sym, ◌∙◌, ap, subst, append_assoc, ⊎_elim, arith, length-append, length-drop, take_all, take_at, drop_at}
 use Rattle.std.proofs.Math.Seq.{drop-length, take-length}
 use Rattle.whole.specs.Tests.{lt_or_ge}
@@ -24,26 +24,18 @@ entry_tabbed {l} {k} (UpTo.stands {q} u e w p) h =
     rest = ap (drop (k + 1)) (sym (append_assoc q (tab ∷ []) u)) ∙ drop_at (q ++ (tab ∷ [])) u (k + 1) (length-append q (tab ∷ []) ∙ omega arith)
 entry_tabbed {l} {k} (UpTo.ends {q} e w p) h = absurd (omega (arith, ap length e))
 
-entry_bare : {l : List ℕ} {k : ℕ} → UpTo tab l 0 k → length l ≤ k → Entry l (take k l) (drop k l)
+entry_bare : {l : List ℕ} {k : ℕ} → UpTo tab l 0 k → length l ≤ k → Entry l (take k l) (drop (length l) l)
 entry_bare {l} {k} (UpTo.stands {q} u e w p) h = absurd (omega (arith, ap length e, length-append q (tab ∷ u)))
 entry_bare {l} {k} (UpTo.ends {q} e w p) h =
-    let n : k ≡ length l = omega (arith, ap length e) in
-    subst (λ (i : ℕ). Entry l (take i l) (drop i l)) (sym n)
+    subst (λ (i : ℕ). Entry l (take i l) (drop (length l) l)) (omega (arith, ap length e))
     (subst (λ (x : List ℕ). Entry l x (drop (length l) l)) (sym (take-length l))
     (subst (Entry l l) (sym (drop-length l)) (bare (subst (Without tab) (sym e) w))))
 
--- where the text begins, when the first tab, or the end of a line of n bytes, is at k
-pub data TextFrom (n k : ℕ) (r : ℕ) : Type 0 where
-  after_tab : k < n → r ≡ k + 1 → TextFrom n k r
-  at_end : n ≤ k → r ≡ k → TextFrom n k r
-
-pub entry_from : {l : List ℕ} {k r : ℕ} → UpTo tab l 0 k → TextFrom (length l) k r → Entry l (take k l) (drop r l)
-entry_from {l} {k} b (TextFrom.after_tab h e) = subst (λ (i : ℕ). Entry l (take k l) (drop i l)) (sym e) (entry_tabbed b h)
-entry_from {l} {k} b (TextFrom.at_end h e) = subst (λ (i : ℕ). Entry l (take k l) (drop i l)) (sym e) (entry_bare b h)
-
--- a name that is none, whatever the text
-pub no_calendar : {N : Naming} {l : List ℕ} {k : ℕ} {why : Refusal} → UpTo tab l 0 k → N (take k l) (Err why) → ByEntry N l (Err why)
-no_calendar {l = l} {k} u n = ⊎_elim (λ h. no_name (entry_tabbed u h) n) (λ h. no_name (entry_bare u h) n) (lt_or_ge k (length l))
+-- where the first tab is at k, or the line ends there, the text begins after the tab, or at the line's end
+pub entry_from : {l : List ℕ} {k : ℕ} → UpTo tab l 0 k → Entry l (take k l) (drop (min (k + 1) (length l)) l)
+entry_from {l} {k} b =
+    ⊎_elim (λ h. subst (λ (i : ℕ). Entry l (take k l) (drop i l)) (omega (arith, h)) (entry_tabbed b h)) (λ h. subst (λ (i : ℕ). Entry l (take k l) (drop i l)) (omega (arith, h)) (entry_bare b h))
+    (lt_or_ge k (length l))
 
 -- a line that is too long, whatever it names
 pub too_long : {N : Naming} {l : List ℕ} {why : Refusal} → longest_entry < length l → why ≡ refusal 20 (pos 0) → LineAnswer N l (Err why)
