@@ -5,7 +5,7 @@
 
 ghost use Rattle.fields.specs.Promise.{IsSame};
 
-#[derive(Clone, Copy)]
+#[derive(Clone, Copy, PartialEq, Eq)]
 pub struct Fields {
     pub year: i32,
     pub ordinal: u32,
@@ -18,23 +18,5 @@ pub struct Fields {
 pub fn same_fields(a: Fields, b: Fields) -> bool
     ensures { IsSame a b result }
 {
-    if a.year != b.year {
-        return false;
-    }
-    if a.ordinal != b.ordinal {
-        return false;
-    }
-    if a.month != b.month {
-        return false;
-    }
-    if a.day != b.day {
-        return false;
-    }
-    if a.day_ordinal != b.day_ordinal {
-        return false;
-    }
-    if a.style != b.style {
-        return false;
-    }
-    true
+    a == b
 }
