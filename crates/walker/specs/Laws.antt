@@ -1,18 +1,21 @@
 -- From the answers of the calendar, and from what a step does on day numbers, to the promises.
 -- Assumes nothing.
-use Rattle.std.specs.Prelude.{◌≡◌, refl, Bool, true, false, not, ℤ, Ok, Some}
+use Rattle.std.specs.Prelude.{◌≡◌, refl, Bool, true, false, ℤ, Result, Ok, Err, Some}
+use Rattle.std.specs.Result.{result_unwrap_or}
 use Rattle.std.proofs.Common.{sym, subst}
 use Rattle.calendar.specs.declared.Calendar.{Calendar}
 use Rattle.calendar.specs.declared.Date.{Date}
-use Rattle.calendar.specs.Calendars.{IsRecord, Genuine}
+use Rattle.refusals.specs.declared.Refusal.{Refusal}
+use Rattle.calendar.specs.Calendars.{Accepted, IsRecord, Genuine}
 use Rattle.calendar.specs.Rows.{refuses, passes}
 use Rattle.calendar.specs.Promise.{record_of, AtJdn, Next}
 use Rattle.calendar.specs.InMonth.{NextInMonth, near_fits, near_next}
 use Rattle.days.specs.DayByDay.{Is32Bit}
 use Rattle.ways.specs.declared.Kind.{Kind}
 use Rattle.ways.specs.declared.Kind.TheVariants.{Later, Earlier, AndLater, AndEarlier}
-use Rattle.ways.specs.declared.Step.{Step}
-use Rattle.ways.specs.declared.Step.TheVariants as Step'
+use Rattle.ways.specs.declared.Given.{Given}
+use Rattle.ways.specs.declared.NoStep.{NoStep}
+use Rattle.ways.specs.declared.NoStep.TheVariants as NoStep'
 use Rattle.ways.specs.Promise.{goes_later_value, toward, gives_held_value, EndedAt, FlagAt, NextStep, made_up, ended, goes}
 use Rattle.ways.specs.Laws.{ahead_is, gives_held, gives_ahead, not_both}
 use Rattle.walker.specs.declared.Walker.{Walker}
@@ -21,36 +24,33 @@ use Rattle.walker.specs.Promise.{GenuineWalker, walker, moved, unmoved, Moves, m
 use Rattle.walker.specs.Private.{Gave, gave}
 
 -- ---- Records
--- the record that was given is that of the day
-pub is_given : {c : Calendar} {n : ℤ} {d : Date} → AtJdn c n (Ok d) → IsRecord c n d
-is_given (passes b (record_of i)) = i
+-- an accepted calendar has the record of each day, so the other one is never taken
+pub is_given : {c : Calendar} {n : ℤ} {a : Result Date Refusal} → Accepted c → AtJdn c n a → (other : Date) → IsRecord c n (result_unwrap_or a other)
+is_given a (refuses x) other = absurd (x a)
+is_given a (passes b (record_of i)) other = i
 
 -- ---- The rows of a step
 module _ (w : Walker) where
-  abbrev OfStep : Bool → Step → Type 0
+  abbrev OfStep : Bool → Result Given NoStep → Type 0
   OfStep = NextStep w.kind w.date.jdn
 
   pub date_made_up : ¬ Genuine w.date → Steps w (unmoved 16 w)
   date_made_up x = refuses (λ g. x g.date_genuine)
 
-  pub flag_made_up : {e : Bool} → w.ended ≡ e → OfStep e Step'.MadeUp → Steps w (unmoved 16 w)
+  pub flag_made_up : {e : Bool} → w.ended ≡ e → OfStep e (Err NoStep'.MadeUp) → Steps w (unmoved 16 w)
   flag_made_up s (made_up x) = refuses (λ g. x (subst (FlagAt w.kind w.date.jdn) s g.flag_is))
 
   module _ (g : Genuine w.date) where
     genuine_walker : {e : Bool} → w.ended ≡ e → FlagAt w.kind w.date.jdn e → GenuineWalker w
     genuine_walker s l = record { date_genuine = g; flag_is = subst (FlagAt w.kind w.date.jdn) (sym s) l }
 
-    pub step_ended : {e : Bool} → w.ended ≡ e → OfStep e Step'.Ended → Steps w (unmoved 15 w)
+    pub step_ended : {e : Bool} → w.ended ≡ e → OfStep e (Err NoStep'.Ended) → Steps w (unmoved 15 w)
     step_ended s (ended l) = passes (genuine_walker s l) (refuses s)
 
-    pub step_gives : {e : Bool} → w.ended ≡ e → {n m : ℤ} {f : Bool} {v : Moved} → OfStep e (Step'.Gives n m f) → Gave w.kind w.date.calendar n m f v → Steps w v
+    pub step_gives : {e : Bool} → w.ended ≡ e → {t : Given} {v : Moved} → OfStep e (Ok t) → Gave w.kind w.date.calendar t v → Steps w v
     step_gives s (goes l t) (gave r u) = passes (genuine_walker s l) (passes (not_both s) (moves r t u))
 
 -- ---- A step to the next date of the month
-pub not_ended : (b : Bool) → not b ≡ true → b ≡ false
-not_ended true e = sym e
-not_ended false e = refl
-
 module _ (w : Walker) (s : w.ended ≡ false) {n : Date} where
   found : NextInMonth (goes_later_value w.kind) w.date (Some n) → Genuine w.date × Is32Bit (toward w.kind w.date.jdn) × IsRecord w.date.calendar (toward w.kind w.date.jdn) n
   found p = of_next (subst (λ (z : ℤ). Next w.date z (Ok n)) (ahead_is w.kind w.date.jdn) (near_next (goes_later_value w.kind) p))

@@ -12,7 +12,7 @@ ghost use Rattle.walker.specs.Private.{Gave};
 
 use calendar::{Date, Refusal, refusal_of};
 pub use ways::Kind;
-use ways::{Step, ended_when_made};
+use ways::{Given, NoStep, ended_when_made};
 
 #[derive(Clone, Copy)]
 pub struct Walker {
@@ -21,9 +21,7 @@ pub struct Walker {
     pub ended: bool,
 }
 
-// ---- Answers
-
-// What a step gives, and the walker after it.
+// What a step answers, and the walker after it.
 #[derive(Clone, Copy)]
 pub struct Moved {
     pub answer: Result<Date, Refusal>,
@@ -37,11 +35,7 @@ fn made(kind: Kind, date: Date) -> Result<Walker, Refusal>
 {
     if date.is_genuine() {
         let ended = ended_when_made(kind, date.jdn);
-        return Ok(Walker {
-            kind: kind,
-            date: date,
-            ended: ended,
-        });
+        return Ok(Walker { kind, date, ended });
     }
     Err(refusal_of(16, 0))
 }
@@ -81,7 +75,7 @@ fn refused(number: u32, walker: Walker) -> Moved
 {
     Moved {
         answer: Err(refusal_of(number, 0)),
-        walker: walker,
+        walker,
     }
 }
 
@@ -93,26 +87,22 @@ fn on_day(date: Date, jdn: i32) -> Date
     if jdn == date.jdn {
         return date;
     }
-    let calendar = date.calendar;
-    match calendar.at_jdn(jdn) {
-        Ok(d) => d,
-        Err(_) => date,
-    }
+    date.calendar.at_jdn(jdn).unwrap_or(date)
 }
 
 // The record of the day that is given, and a walker that holds the record of another day, or of the same.
-fn gave(kind: Kind, date: Date, given: i32, held: i32, ended: bool) -> Moved
+fn gave(kind: Kind, date: Date, step: Given) -> Moved
     requires { Genuine date }
-    ensures { Gave kind date.calendar given held ended result }
+    ensures { Gave kind date.calendar step result }
 {
-    let first = on_day(date, given);
-    let after = on_day(first, held);
+    let given = on_day(date, step.given);
+    let held = on_day(given, step.held);
     Moved {
-        answer: Ok(first),
+        answer: Ok(given),
         walker: Walker {
-            kind: kind,
-            date: after,
-            ended: ended,
+            kind,
+            date: held,
+            ended: step.ended,
         },
     }
 }
@@ -121,31 +111,27 @@ fn gave(kind: Kind, date: Date, given: i32, held: i32, ended: bool) -> Moved
 pub fn stepped(walker: Walker) -> Moved
     ensures { Steps walker result }
 {
-    if !walker.ended {
-        let kind = walker.kind;
-        let date = walker.date;
-        match calendar::next_in_month(date, ways::goes_later(kind)) {
-            None => {}
-            Some(next) => {
-                if ways::gives_held(kind) {
-                    return Moved {
-                        answer: Ok(date),
-                        walker: Walker {
-                            kind: kind,
-                            date: next,
-                            ended: false,
-                        },
-                    };
-                }
+    let Walker { kind, date, ended } = walker;
+    if !ended {
+        if let Some(next) = calendar::next_in_month(date, ways::goes_later(kind)) {
+            if ways::gives_held(kind) {
                 return Moved {
-                    answer: Ok(next),
+                    answer: Ok(date),
                     walker: Walker {
-                        kind: kind,
+                        kind,
                         date: next,
-                        ended: ways::is_last(kind, next.jdn),
+                        ended: false,
                     },
                 };
             }
+            return Moved {
+                answer: Ok(next),
+                walker: Walker {
+                    kind,
+                    date: next,
+                    ended: ways::is_last(kind, next.jdn),
+                },
+            };
         }
     }
     any_step(walker)
@@ -155,17 +141,15 @@ pub fn stepped(walker: Walker) -> Moved
 fn any_step(walker: Walker) -> Moved
     ensures { Steps walker result }
 {
-    let kind = walker.kind;
-    let date = walker.date;
-    let genuine = date.is_genuine();
-    if genuine {
-        return match ways::next_step(kind, date.jdn, walker.ended) {
-            Step::MadeUp => refused(16, walker),
-            Step::Ended => refused(15, walker),
-            Step::Gives(given, held, ended) => gave(kind, date, given, held, ended),
-        };
+    let Walker { kind, date, ended } = walker;
+    if !date.is_genuine() {
+        return refused(16, walker);
     }
-    refused(16, walker)
+    match ways::next_step(kind, date.jdn, ended) {
+        Err(NoStep::MadeUp) => refused(16, walker),
+        Err(NoStep::Ended) => refused(15, walker),
+        Ok(step) => gave(kind, date, step),
+    }
 }
 
 // The walker is lent, and moves one day.

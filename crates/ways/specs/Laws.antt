@@ -1,6 +1,6 @@
 -- From the last day of 32 bits to the day that lies ahead, and from there to the steps.
 -- Assumes nothing.
-use Rattle.std.specs.Prelude.{◌≡◌, refl, Bool, true, false, not, ℕ, ◌+◌, ◌-◌, ◌<◌, ◌≤◌, ◌^◌, eqb, ℤ}
+use Rattle.std.specs.Prelude.{◌≡◌, refl, Bool, true, false, not, ℕ, ◌+◌, ◌-◌, ◌<◌, ◌≤◌, ◌^◌, eqb, ℤ, Ok, Err}
 use Rattle.std.proofs.Common.{sym, subst, ⊎_elim, arith, eqb-true}
 use Rattle.std.proofs.lemmas.Bool.{eqb-false}
 use Rattle.std.proofs.Math.IntN.{suc_ℤ, pred_ℤ}
@@ -10,7 +10,7 @@ use Rattle.days.specs.DayByDay.{Is32Bit}
 use Rattle.days.proofs.ClosedEnds.{suc_is, pred_is, suc_far, pred_far, raised_fits}
 use Rattle.ways.specs.declared.Kind.{Kind}
 use Rattle.ways.specs.declared.Kind.TheVariants.{Later, Earlier, AndLater, AndEarlier}
-use Rattle.ways.specs.declared.Step.TheVariants as Step'
+use Rattle.ways.specs.declared.NoStep.TheVariants as NoStep'
 use Rattle.ways.specs.Promise.{goes_later_value, toward, beside, Inside, IsStaying, gives_held_value, gives, EndedAt, NextStep, made_up, goes}
 
 -- ---- The kinds of walkers
@@ -75,29 +75,34 @@ room_down x e f = ⊎_elim (λ l. absurd (pred_far x e (omega arith) f)) (λ g. 
 pub not_both : {b : Bool} → b ≡ false → ¬ (b ≡ true)
 not_both e t = let z : ◌≡◌ {A = ℕ} 0 1 = cc in omega arith
 
-pub last_made_up : (k : Kind) (n : ℤ) → not (gives_held_value k) ≡ true → ¬ Is32Bit (toward k n) → NextStep k n false Step'.MadeUp
+pub last_made_up : (k : Kind) (n : ℤ) → not (gives_held_value k) ≡ true → ¬ Is32Bit (toward k n) → NextStep k n false (Err NoStep'.MadeUp)
 last_made_up Later n h x = made_up {e = false} x
 last_made_up Earlier n h x = made_up {e = false} x
 last_made_up AndLater n h x = absurd (not_both refl h)
 last_made_up AndEarlier n h x = absurd (not_both refl h)
 
-pub last_gives : (k : Kind) (n : ℤ) → not (gives_held_value k) ≡ false → Is32Bit n → ¬ Is32Bit (toward k n) → NextStep k n false (Step'.Gives n n true)
+pub last_gives : (k : Kind) (n : ℤ) → not (gives_held_value k) ≡ false → Is32Bit n → ¬ Is32Bit (toward k n) → NextStep k n false (Ok (record { given = n; held = n; ended = true }))
 last_gives Later n h f x = absurd (not_both h refl)
 last_gives Earlier n h f x = absurd (not_both h refl)
 last_gives AndLater n h f x = goes f {e = true} x
 last_gives AndEarlier n h f x = goes f {e = true} x
 
-pub way_gives : (k : Kind) (n : ℤ) {p q : ℤ} → gives_held_value k ≡ true → Is32Bit n → Is32Bit (toward k n) → p ≡ n → q ≡ toward k n → NextStep k n false (Step'.Gives p q false)
-way_gives Later n h f x u v = absurd (not_both refl h)
-way_gives Earlier n h f x u v = absurd (not_both refl h)
-way_gives AndLater n h f x u v = rw (u, v) (goes f {e = false} x)
-way_gives AndEarlier n h f x u v = rw (u, v) (goes f {e = false} x)
+-- a step of a walker that a day lies ahead of: the day held is given, or the day ahead
+abbrev pub Step : Kind → ℤ → ℤ → ℤ → Bool → Type 0
+Step k n p q e = NextStep k n false (Ok (record { given = p; held = q; ended = e }))
 
-pub way_goes : (k : Kind) (n : ℤ) {p q : ℤ} {e : Bool} → gives_held_value k ≡ false → Is32Bit (toward k n) → EndedAt (toward k (toward k n)) e → p ≡ toward k n → q ≡ toward k n
-    → NextStep k n false (Step'.Gives p q e)
-way_goes Later n {e = true} h f x u v = rw (u, v) (goes f {e = true} x)
-way_goes Later n {e = false} h f x u v = rw (u, v) (goes f {e = false} x)
-way_goes Earlier n {e = true} h f x u v = rw (u, v) (goes f {e = true} x)
-way_goes Earlier n {e = false} h f x u v = rw (u, v) (goes f {e = false} x)
-way_goes AndLater n h f x u v = absurd (not_both h refl)
-way_goes AndEarlier n h f x u v = absurd (not_both h refl)
+pub way_gives : (k : Kind) (n : ℤ) {e : Bool} → gives_held_value k ≡ true → Is32Bit n → Is32Bit (toward k n) → EndedAt (toward k n) e → Step k n n (toward k n) e
+way_gives Later n h f x t = absurd (not_both refl h)
+way_gives Earlier n h f x t = absurd (not_both refl h)
+way_gives AndLater n {e = true} h f x t = absurd (t x)
+way_gives AndLater n {e = false} h f x t = goes f {e = false} t
+way_gives AndEarlier n {e = true} h f x t = absurd (t x)
+way_gives AndEarlier n {e = false} h f x t = goes f {e = false} t
+
+pub way_goes : (k : Kind) (n : ℤ) {e : Bool} → gives_held_value k ≡ false → Is32Bit (toward k n) → EndedAt (toward k (toward k n)) e → Step k n (toward k n) (toward k n) e
+way_goes Later n {e = true} h x t = goes x {e = true} t
+way_goes Later n {e = false} h x t = goes x {e = false} t
+way_goes Earlier n {e = true} h x t = goes x {e = true} t
+way_goes Earlier n {e = false} h x t = goes x {e = false} t
+way_goes AndLater n h x t = absurd (not_both h refl)
+way_goes AndEarlier n h x t = absurd (not_both h refl)

@@ -1,13 +1,14 @@
 -- What is promised of the ways of walkers, on whole numbers: which day lies ahead, which is given next, which is held then, and when a walker is ended.
 -- Assumes nothing.
-use Rattle.std.specs.Prelude.{Bool, true, false, ℕ, ◌≤◌, ℤ, Option, Some, None}
+use Rattle.std.specs.Prelude.{Bool, true, false, ℕ, ◌≤◌, ℤ, Result, Ok, Err, Option, Some, None}
 use Rattle.std.proofs.Math.IntN.{suc_ℤ, pred_ℤ}
 use Rattle.whole.specs.Whether.{Whether}
 use Rattle.days.specs.DayByDay.{Is32Bit}
 use Rattle.ways.specs.declared.Kind.{Kind}
 use Rattle.ways.specs.declared.Kind.TheVariants.{Later, Earlier, AndLater, AndEarlier}
-use Rattle.ways.specs.declared.Step.{Step}
-use Rattle.ways.specs.declared.Step.TheVariants as Step'
+use Rattle.ways.specs.declared.Given.{Given}
+use Rattle.ways.specs.declared.NoStep.{NoStep}
+use Rattle.ways.specs.declared.NoStep.TheVariants as NoStep'
 
 -- whether a walker goes to later days; else it goes to earlier ones
 abbrev pub goes_later_value : Kind → Bool
@@ -78,7 +79,7 @@ FlagAt k n false = Is32Bit (gives k n)
 
 -- a step of a walker that holds day n and has the flag e: it is no flag that this day can have; the walker is ended; or the day to give, the
 -- day that is held after it, and whether the walker is then ended
-pub data NextStep (k : Kind) (n : ℤ) : Bool → Step → Type 0 where
-  made_up : {e : Bool} → ¬ FlagAt k n e → NextStep k n e Step'.MadeUp
-  ended : FlagAt k n true → NextStep k n true Step'.Ended
-  goes : FlagAt k n false → {e : Bool} → EndedAt (toward k (gives k n)) e → NextStep k n false (Step'.Gives (gives k n) (holds k e (gives k n)) e)
+pub data NextStep (k : Kind) (n : ℤ) : Bool → Result Given NoStep → Type 0 where
+  made_up : {e : Bool} → ¬ FlagAt k n e → NextStep k n e (Err NoStep'.MadeUp)
+  ended : FlagAt k n true → NextStep k n true (Err NoStep'.Ended)
+  goes : FlagAt k n false → {e : Bool} → EndedAt (toward k (gives k n)) e → NextStep k n false (Ok (record { given = gives k n; held = holds k e (gives k n); ended = e }))

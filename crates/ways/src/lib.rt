@@ -20,13 +20,19 @@ pub enum Kind {
     AndEarlier,
 }
 
-// What a step does: no walker on this day has this flag; no day is left to give; or the day that is given, the day that is held after it,
-// and whether the walker is then ended.
+// The day that a step gives, the day that is held after it, and whether the walker is then ended.
 #[derive(Clone, Copy)]
-pub enum Step {
+pub struct Given {
+    pub given: i32,
+    pub held: i32,
+    pub ended: bool,
+}
+
+// Why a step gives none: no walker on this day has this flag, or no day is left to give.
+#[derive(Clone, Copy)]
+pub enum NoStep {
     MadeUp,
     Ended,
-    Gives(i32, i32, bool),
 }
 
 // ---- The kinds of walkers
@@ -34,23 +40,13 @@ pub enum Step {
 pub fn goes_later(kind: Kind) -> bool
     ensures { result ≡ goes_later_value kind }
 {
-    match kind {
-        Kind::Later => true,
-        Kind::Earlier => false,
-        Kind::AndLater => true,
-        Kind::AndEarlier => false,
-    }
+    matches!(kind, Kind::Later | Kind::AndLater)
 }
 
 pub fn gives_held(kind: Kind) -> bool
     ensures { result ≡ gives_held_value kind }
 {
-    match kind {
-        Kind::Later => false,
-        Kind::Earlier => false,
-        Kind::AndLater => true,
-        Kind::AndEarlier => true,
-    }
+    matches!(kind, Kind::AndLater | Kind::AndEarlier)
 }
 
 // ---- The day ahead
@@ -81,8 +77,7 @@ pub fn day_ahead(kind: Kind, jdn: i32) -> Option<i32>
     if is_last(kind, jdn) {
         return None;
     }
-    let next = ahead(kind, jdn);
-    Some(next)
+    Some(ahead(kind, jdn))
 }
 
 // ---- The next day of a month
@@ -118,37 +113,42 @@ pub fn ended_when_made(kind: Kind, jdn: i32) -> bool
 // ---- Stepping
 
 // A step of a walker that no day lies ahead of.
-fn on_the_last(kind: Kind, jdn: i32, ended: bool) -> Step
+fn on_the_last(kind: Kind, jdn: i32, ended: bool) -> Result<Given, NoStep>
     requires { ¬ Is32Bit (toward kind jdn) }
     ensures { NextStep kind jdn ended result }
 {
     if ended {
-        return Step::Ended;
+        return Err(NoStep::Ended);
     }
     if !gives_held(kind) {
-        return Step::MadeUp;
+        return Err(NoStep::MadeUp);
     }
-    Step::Gives(jdn, jdn, true)
+    Ok(Given {
+        given: jdn,
+        held: jdn,
+        ended: true,
+    })
 }
 
 // A step of a walker that a day lies ahead of.
-fn on_the_way(kind: Kind, jdn: i32, ended: bool) -> Step
+fn on_the_way(kind: Kind, jdn: i32, ended: bool) -> Result<Given, NoStep>
     requires { Is32Bit (toward kind jdn) }
     ensures { NextStep kind jdn ended result }
 {
     if ended {
-        return Step::MadeUp;
+        return Err(NoStep::MadeUp);
     }
     let next = ahead(kind, jdn);
-    if gives_held(kind) {
-        return Step::Gives(jdn, next, false);
-    }
-    let last = is_last(kind, next);
-    Step::Gives(next, next, last)
+    let given = if gives_held(kind) { jdn } else { next };
+    Ok(Given {
+        given,
+        held: next,
+        ended: is_last(kind, given),
+    })
 }
 
 // A step of a walker that holds this day and has this flag.
-pub fn next_step(kind: Kind, jdn: i32, ended: bool) -> Step
+pub fn next_step(kind: Kind, jdn: i32, ended: bool) -> Result<Given, NoStep>
     ensures { NextStep kind jdn ended result }
 {
     if is_last(kind, jdn) {

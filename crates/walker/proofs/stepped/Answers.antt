@@ -1,28 +1,26 @@
 -- `walker::stepped` meets its promise.
-use mathlib.Core.Path.{◌≡◌, sym, ◌∙◌}
-use mathlib.Core.Bool.{false}
-use borrow.Author.Rules.{sfits_of}
+use mathlib.Core.Path.{sym, ◌∙◌, subst}
+use lib.IntN.{ℤ}
+use borrow.Author.Rules.{rules}
 use mir.Facts.{to_z-of_z}
-use Rattle.calendar.specs.InMonth.{NextInMonth}
-use Rattle.ways.specs.Promise.{goes_later_value}
-use Rattle.walker.specs.declared.Walker.{Walker}
-use Rattle.walker.specs.Laws.{not_ended, gives_first, gives_next}
 use mir.Syntax.{w32}
+use Rattle.std.specs.Prelude.{Some}
+use Rattle.calendar.specs.InMonth.{NextInMonth}
+use Rattle.ways.specs.Promise.{goes_later_value, toward, EndedAt}
+use Rattle.walker.specs.Laws.{gives_first, gives_next}
 use Rattle.walker.proofs.stepped.Goals as goal
 use Rattle.walker.proofs.stepped.Goals.{After-gives_held}
-use Rattle.std.specs.Prelude.{Some}
 
-abbrev on : After-gives_held → Walker
-on c = c.args.walker
-
-runs_on : (c : After-gives_held) → (on c).ended ≡ false
-runs_on c = not_ended (on c).ended c.if-not-walker.true
-
-near : (c : After-gives_held) → NextInMonth (goes_later_value (on c).kind) (on c).date (Some c.in-Ok.next)
-near c = rw (c.in-Ok.is, c.goes_later.ensures) at c.next_in_month.ensures
+near : (c : After-gives_held) → NextInMonth (goes_later_value c.args.walker.kind) c.args.walker.date (Some c.in-Some.next)
+near c = rw (c.in-Some.is, c.goes_later.ensures) at c.next_in_month.ensures
 
 pub returns-then-gives_held : goal.returns-then-gives_held
-returns-then-gives_held c = gives_first (on (goal.at.returns-then-gives_held c).After-gives_held) (runs_on (goal.at.returns-then-gives_held c).After-gives_held) (sym c.gives_held.ensures ∙ c.if-gives_held.true) (near (goal.at.returns-then-gives_held c).After-gives_held)
+returns-then-gives_held c =
+    let h = (goal.at.returns-then-gives_held c).After-gives_held in
+    gives_first h.args.walker h.if-not-ended.true (sym c.gives_held.ensures ∙ c.if-gives_held.true) (near h)
 
-pub returns-in-Ok : goal.returns-in-Ok
-returns-in-Ok c = let h = (goal.at.returns-in-Ok c).After-gives_held in gives_next (on h) (runs_on h) (sym h.gives_held.ensures ∙ c.if-gives_held.false) (rw (to_z-of_z {w = w32} (sfits_of c.struct_told-1.given.1.1.1.1.1.1.1.0.1)) at c.is_last.ensures) (near h)
+pub returns-in-Some : goal.returns-in-Some
+returns-in-Some c =
+    let h = (goal.at.returns-in-Some c).After-gives_held in
+    gives_next h.args.walker h.if-not-ended.true (sym h.gives_held.ensures ∙ c.if-gives_held.false)
+    (subst (λ (n : ℤ). EndedAt (toward h.args.walker.kind n) c.is_last.result) (to_z-of_z {w = w32} {z = c.in-Some.next.jdn} (search rules)) c.is_last.ensures) (near h)

@@ -12,10 +12,8 @@ returns-then-ended c = rw c.if-ended.true (ended c.requires)
 
 pub returns-then-not-gives_held : goal.returns-then-not-gives_held
 returns-then-not-gives_held c =
-    let a = c in
-    rw c.if-ended.false (last_made_up a.args.kind a.args.jdn (ap not (sym c.gives_held.ensures ∙ c.if-not-gives_held.true)) a.requires)
+    rw c.if-ended.false (last_made_up c.args.kind c.args.jdn (ap not (sym c.gives_held.ensures ∙ c.if-not-gives_held.true)) c.requires)
 
 pub returns : goal.returns
 returns c =
-    let a = c in
-    rw (c.if-ended.false, to_z-of_z {w = w32} a.ranges.jdn) (last_gives a.args.kind a.args.jdn (ap not (sym c.gives_held.ensures ∙ c.if-not-gives_held.false)) a.ranges.jdn a.requires)
+    rw (c.if-ended.false, to_z-of_z {w = w32} c.ranges.jdn) (last_gives c.args.kind c.args.jdn (ap not (sym c.gives_held.ensures ∙ c.if-not-gives_held.false)) c.ranges.jdn c.requires)
