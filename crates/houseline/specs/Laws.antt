@@ -7,7 +7,6 @@ use Rattle.std.specs.Int.{w32}
 use Rattle.std.specs.List.{AllWithin, HoldsAt}
 use Rattle.whole.specs.Tests.{lt_or_ge}
 use Rattle.whole.specs.Whether.{Whether}
-use Rattle.nametable.specs.Limits.{most_name}
 use Rattle.bytesearch.specs.Promise.{Without, UpTo}
 use Rattle.bytesearch.specs.One.{never, parted_one, never_parted}
 use Rattle.digits.specs.Numerals.{dash, Digit, Digits, Numeral, Stops, value_of}
@@ -100,18 +99,6 @@ not_low d h = omega (arith, d.low)
 
 pub not_high : {b : ℕ} → Digit b → 57 < b → ⊥
 not_high d h = omega (arith, d.high)
-
--- a name, or none
-module _ (s : List ℕ) (n : ℕ) (h : n ≤ length s) where
-  pub name_none : n < 1 → ¬ Name (take n s)
-  name_none k w = omega (arith, w.some, length-take-le n s h)
-
-  pub name_long : most_name < n → ¬ Name (take n s)
-  name_long k w = omega (arith, w.short, length-take-le n s h)
-
-  pub name_by : (b : Bool) → 1 ≤ n → n ≤ most_name → Whether (Lettered s n) b → Whether (Name (take n s)) b
-  name_by true k l w = record { some = omega (arith, length-take-le n s h); short = omega (arith, length-take-le n s h); letters = w }
-  name_by false k l o = λ w. o w.letters
 
 -- ---- a number: the digits after a `-` or without one
 

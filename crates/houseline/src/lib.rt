@@ -43,13 +43,7 @@ fn is_name(line: &[u8], end: usize) -> bool
     requires { end ≤ length line.now }
     ensures { Whether (Name (take end line.now)) result }
 {
-    if end < 1 {
-        return false;
-    }
-    if nametable::NAME < end {
-        return false;
-    }
-    only_letters(line, end)
+    0 < end && end <= nametable::NAME && only_letters(line, end)
 }
 
 // The place after a `-`, if one stands there.
@@ -57,10 +51,8 @@ fn after_dash(line: &[u8], at: usize) -> usize
     requires { at ≤ length line.now }
     ensures { (DigitsFrom (drop at line.now) (drop result line.now)) × (result ≤ length line.now) }
 {
-    if at < line.len() {
-        if line[at] == b'-' {
-            return at + 1;
-        }
+    if at < line.len() && line[at] == b'-' {
+        return at + 1;
     }
     at
 }
