@@ -14,8 +14,6 @@ use Rattle.calendar.specs.Rows.{refuses, passes}
 use Rattle.calendar.specs.declared.Calendar.{Calendar}
 use Rattle.calendar.specs.declared.Calendar.TheVariants.{Reforming}
 use Rattle.ncal.specs.Promise.{Known, InTable, FoundAs, in_table, in_no_row}
-use Rattle.ncal.specs.declared.Found.{Found}
-use Rattle.ncal.specs.declared.Found.TheVariants as Found'
 use Rattle.nametable.specs.Limits.{most_lines, most_name}
 use Rattle.nametable.specs.Promise.{Finds, Enters, no_slot, no_room, enters}
 use Rattle.nametable.specs.declared.Names.{Names}
@@ -33,18 +31,18 @@ use Rattle.catalogue.specs.Promise.{TakenIn, FreeIn, IsTaken, CarriesOut, left_a
 -- ---- a name that is built in, or not
 
 -- what was looked up says it
-abbrev LooksUp : List ℕ → Found → Type 0
-LooksUp s (Found'.Calendar c) = InTable s c
-LooksUp s Found'.Nothing = ¬ Known s
+abbrev LooksUp : List ℕ → Option Calendar → Type 0
+LooksUp s (Some c) = InTable s c
+LooksUp s None = ¬ Known s
 
-looks_up : {s : List ℕ} {f : Found} → FoundAs s f → LooksUp s f
+looks_up : {s : List ℕ} {f : Option Calendar} → FoundAs s f → LooksUp s f
 looks_up (in_table m) = m
 looks_up (in_no_row n) = n
 
-pub in_row : {s : List ℕ} {c : Calendar} → FoundAs s (Found'.Calendar c) → InTable s c
+pub in_row : {s : List ℕ} {c : Calendar} → FoundAs s (Some c) → InTable s c
 in_row = looks_up
 
-pub not_built_in : {s : List ℕ} → FoundAs s Found'.Nothing → ¬ Known s
+pub not_built_in : {s : List ℕ} → FoundAs s None → ¬ Known s
 not_built_in = looks_up
 
 -- ---- a house calendar

@@ -19,8 +19,8 @@ fn is_taken(names: &Names, name: &[u8]) -> bool
     ensures { IsTaken names.now name.now result }
 {
     match ncal::look_up(name) {
-        ncal::Found::Calendar(_) => true,
-        ncal::Found::Nothing => names.find(name).is_some(),
+        Some(_) => true,
+        None => names.find(name).is_some(),
     }
 }
 
@@ -92,7 +92,7 @@ pub fn named(names: &Names, name: &[u8]) -> Result<Calendar, Refusal>
     ensures { NamesIn names.now name.now result }
 {
     match ncal::look_up(name) {
-        ncal::Found::Calendar(calendar) => Ok(calendar),
-        ncal::Found::Nothing => house_calendar(names.find(name).ok_or(refusal_at(19, 0, 0))?),
+        Some(calendar) => Ok(calendar),
+        None => house_calendar(names.find(name).ok_or(refusal_at(19, 0, 0))?),
     }
 }

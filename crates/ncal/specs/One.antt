@@ -1,6 +1,6 @@
 -- The names are distinct, and the promise allows one result.
 -- Assumes nothing.
-use Rattle.std.specs.Prelude.{◌≡◌, refl, Bool, List, [], ℕ, ◌<◌, T, length, get_or, Ok}
+use Rattle.std.specs.Prelude.{◌≡◌, refl, Bool, List, [], ℕ, ◌<◌, T, length, get_or, Option, Some, Ok}
 use Rattle.std.proofs.Common.{sym, ◌∙◌, ap}
 use Rattle.whole.specs.Text.{bytes}
 use Rattle.calendar.specs.RowLaws.{One, unless_one}
@@ -8,8 +8,6 @@ use Rattle.calendar.specs.declared.Calendar.{Calendar}
 use Rattle.calendar.specs.declared.Calendar.TheVariants.{Julian}
 use Rattle.ncal.specs.Table.{NameRow, row, table}
 use Rattle.ncal.specs.Promise.{InTable, FoundAs, in_table, in_no_row, OfRow, of_row, NamesCalendar}
-use Rattle.ncal.specs.declared.Found.{Found}
-use Rattle.ncal.specs.declared.Found.TheVariants as Found'
 use Rattle.ncal.specs.Every.{every, every_at, number_of, distinct}
 
 -- ---- Rows by number
@@ -42,8 +40,8 @@ of_row_one s a b (of_row p) (of_row q) = ap Ok (one_row p q)
 pub named_one : (s : List ℕ) → One (NamesCalendar s)
 named_one s = unless_one (λ k. of_row_one s)
 
-look_up_same : {s : List ℕ} {f g : Found} → FoundAs s f → FoundAs s g → f ≡ g
-look_up_same (in_table m) (in_table n) = ap Found'.Calendar (one_row m n)
+look_up_same : {s : List ℕ} {f g : Option Calendar} → FoundAs s f → FoundAs s g → f ≡ g
+look_up_same (in_table m) (in_table n) = ap Some (one_row m n)
 look_up_same (in_table m) (in_no_row n) = absurd (n (_, m))
 look_up_same (in_no_row n) (in_table m) = absurd (n (_, m))
 look_up_same (in_no_row n) (in_no_row m) = refl

@@ -1,12 +1,10 @@
 -- What is promised of a name: the calendar of its row, or that there is none, which is 19.
 -- Assumes nothing.
 use mathlib.Core.List.{List, Memᴰ}
-use Rattle.std.specs.Prelude.{ℕ, pos, Result, Ok, Err}
+use Rattle.std.specs.Prelude.{ℕ, pos, Option, Some, None, Result, Ok, Err}
 use Rattle.calendar.specs.Rows.{Unless}
 use Rattle.calendar.specs.Promise.{refusal}
 use Rattle.calendar.specs.declared.Calendar.{Calendar}
-use Rattle.ncal.specs.declared.Found.{Found}
-use Rattle.ncal.specs.declared.Found.TheVariants as Found'
 use Rattle.ncal.specs.Table.{row, table}
 use Rattle.refusals.specs.declared.Refusal.{Refusal}
 
@@ -19,9 +17,9 @@ abbrev pub Known : List ℕ → Type 0
 Known s = (c : Calendar) × InTable s c
 
 -- look_up: the calendar of the row with the name, or that no row has it
-pub data FoundAs (s : List ℕ) : Found → Type 0 where
-  in_table : {c : Calendar} → InTable s c → FoundAs s (Found'.Calendar c)
-  in_no_row : ¬ Known s → FoundAs s Found'.Nothing
+pub data FoundAs (s : List ℕ) : Option Calendar → Type 0 where
+  in_table : {c : Calendar} → InTable s c → FoundAs s (Some c)
+  in_no_row : ¬ Known s → FoundAs s None
 
 -- the calendar of the row with the name
 pub data OfRow (s : List ℕ) : Result Calendar Refusal → Type 0 where

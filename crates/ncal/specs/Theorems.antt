@@ -1,6 +1,6 @@
 -- A name of the table gets its calendar, and every calendar of the table is accepted.
 -- Assumes nothing.
-use Rattle.std.specs.Prelude.{◌≡◌, refl, Bool, true, ◌&&◌, List, ◌⊎◌, ℕ, T, ℤ, pos, ◌≤ℤ◌, Result, Ok}
+use Rattle.std.specs.Prelude.{◌≡◌, refl, Bool, true, ◌&&◌, List, ◌⊎◌, ℕ, T, ℤ, pos, ◌≤ℤ◌, Option, Result, Ok}
 use Rattle.std.proofs.Common.{sym, ap, subst, inl, inr}
 use Rattle.std.specs.Int.Signed.{le_z, le_z_yes}
 use Rattle.std.proofs.Math.Facts.{and_yes}
@@ -16,7 +16,6 @@ use Rattle.calendar.specs.declared.Calendar.TheVariants.{Julian, Gregorian, Refo
 use Rattle.ncal.specs.Table.{NameRow, table}
 use Rattle.ncal.specs.Promise.{InTable, Known, FoundAs, in_table, in_no_row, of_row, NamesCalendar}
 use Rattle.ncal.specs.Search.{among}
-use Rattle.ncal.specs.declared.Found.{Found}
 use Rattle.ncal.specs.One.{row_at, at_row, row_of, named_one}
 use Rattle.ncal.specs.Laws.{nought, is_found}
 use Rattle.refusals.specs.declared.Refusal.{Refusal}
@@ -25,7 +24,7 @@ use Rattle.refusals.specs.declared.Refusal.{Refusal}
 pub known_or_not : (s : List ℕ) → Known s ⊎ ¬ Known s
 known_or_not s = by (is_found s (among s table) refl)
   where
-    by : {f : Found} → FoundAs s f → Known s ⊎ ¬ Known s
+    by : {f : Option Calendar} → FoundAs s f → Known s ⊎ ¬ Known s
     by (in_table m) = inl (_, m)
     by (in_no_row n) = inr n
 

@@ -1,12 +1,10 @@
 // The calendars of the countries that `ncal.rs` of the crate lists, and calendars by name.
-// For users: all that is public but `look_up` and `Found`, which are for the crates above.
+// For users: all that is public but `look_up`, which is for the crates above.
 
 #![tactic(auto)]
 
 ghost use Rattle.std.specs.Prelude.{◌≡◌};
-ghost use Rattle.ncal.specs.Table.{row, table};
 ghost use Rattle.ncal.specs.Promise.{FoundAs, NamesCalendar};
-ghost use Rattle.ncal.specs.Search.{or_row, among, of_length};
 ghost use Rattle.whole.specs.Whether.{Whether};
 
 use calendar::{Calendar, refusal_of};
@@ -123,162 +121,58 @@ pub fn named(name: &[u8]) -> Result<Calendar, Refusal>
     ensures { NamesCalendar name.now result }
 {
     match look_up(name) {
-        Found::Calendar(c) => Ok(c),
-        Found::Nothing => Err(refusal_of(19, 0)),
+        Some(c) => Ok(c),
+        None => Err(refusal_of(19, 0)),
     }
 }
 
-// What a name is found to be among some names.
-#[derive(Clone, Copy)]
-pub enum Found {
-    Calendar(Calendar),
-    Nothing,
-}
-
-// Among all of them. A name that is none here may still be one elsewhere, so this is no refusal.
-pub fn look_up(name: &[u8]) -> Found
+// Among all of them. A name is compared with those of its own length. One that is none here may still be one elsewhere, so this is no refusal.
+pub fn look_up(name: &[u8]) -> Option<Calendar>
     ensures { FoundAs name.now result }
 {
-    by_length(name)
-}
-
-impl Found {
-    // One more name, with its calendar, where those before it are others.
-    fn or(self, name: &[u8], own: &[u8], calendar: Calendar) -> Found
-        ensures { result ≡ or_row name.now self (row own.now calendar) }
-    {
-        match self {
-            Found::Calendar(c) => Found::Calendar(c),
-            Found::Nothing => {
-                if same(name, own) {
-                    return Found::Calendar(calendar);
-                }
-                Found::Nothing
-            }
-        }
-    }
-}
-
-// A name is compared with those of its own length.
-fn by_length(name: &[u8]) -> Found
-    ensures { result ≡ among name.now table }
-{
     match name.len() {
-        5 => of_five(name),
-        6 => of_six(name),
-        7 => of_seven(name),
-        8 => of_eight(name),
-        9 => of_nine(name),
-        10 => of_ten(name),
-        11 => of_eleven(name),
-        13 => of_thirteen(name),
-        14 => of_fourteen(name),
-        _ => Found::Nothing,
+        5 if same(name, b"CHINA") => Some(CHINA),
+        5 if same(name, b"ITALY") => Some(ITALY),
+        5 if same(name, b"JAPAN") => Some(JAPAN),
+        5 if same(name, b"SPAIN") => Some(SPAIN),
+        6 if same(name, b"JULIAN") => Some(Calendar::JULIAN),
+        6 if same(name, b"CANADA") => Some(CANADA),
+        6 if same(name, b"FRANCE") => Some(FRANCE),
+        6 if same(name, b"GREECE") => Some(GREECE),
+        6 if same(name, b"LATVIA") => Some(LATVIA),
+        6 if same(name, b"NORWAY") => Some(NORWAY),
+        6 if same(name, b"POLAND") => Some(POLAND),
+        6 if same(name, b"RUSSIA") => Some(RUSSIA),
+        6 if same(name, b"SWEDEN") => Some(SWEDEN),
+        6 if same(name, b"TURKEY") => Some(TURKEY),
+        7 if same(name, b"ALBANIA") => Some(ALBANIA),
+        7 if same(name, b"AUSTRIA") => Some(AUSTRIA),
+        7 if same(name, b"BELGIUM") => Some(BELGIUM),
+        7 if same(name, b"DENMARK") => Some(DENMARK),
+        7 if same(name, b"FINLAND") => Some(FINLAND),
+        7 if same(name, b"GERMANY") => Some(GERMANY),
+        7 if same(name, b"HUNGARY") => Some(HUNGARY),
+        7 if same(name, b"ICELAND") => Some(ICELAND),
+        7 if same(name, b"ROMANIA") => Some(ROMANIA),
+        8 if same(name, b"BULGARIA") => Some(BULGARIA),
+        8 if same(name, b"PORTUGAL") => Some(PORTUGAL),
+        8 if same(name, b"SLOVENIA") => Some(SLOVENIA),
+        9 if same(name, b"GREGORIAN") => Some(Calendar::GREGORIAN),
+        9 if same(name, b"AUSTRALIA") => Some(AUSTRALIA),
+        9 if same(name, b"LITHUANIA") => Some(LITHUANIA),
+        10 if same(name, b"LUXEMBOURG") => Some(LUXEMBOURG),
+        10 if same(name, b"YUGOSLAVIA") => Some(YUGOSLAVIA),
+        11 if same(name, b"NETHERLANDS") => Some(NETHERLANDS),
+        11 if same(name, b"SWITZERLAND") => Some(SWITZERLAND),
+        13 if same(name, b"UNITED_STATES") => Some(UNITED_STATES),
+        14 if same(name, b"CZECH_REPUBLIC") => Some(CZECH_REPUBLIC),
+        14 if same(name, b"UNITED_KINGDOM") => Some(UNITED_KINGDOM),
+        _ => None,
     }
 }
 
-fn of_five(name: &[u8]) -> Found
-    ensures { result ≡ among name.now (of_length 5 table) }
-{
-    Found::Nothing
-        .or(name, b"CHINA", CHINA)
-        .or(name, b"ITALY", ITALY)
-        .or(name, b"JAPAN", JAPAN)
-        .or(name, b"SPAIN", SPAIN)
-}
-
-fn of_six(name: &[u8]) -> Found
-    ensures { result ≡ among name.now (of_length 6 table) }
-{
-    Found::Nothing
-        .or(name, b"JULIAN", Calendar::JULIAN)
-        .or(name, b"CANADA", CANADA)
-        .or(name, b"FRANCE", FRANCE)
-        .or(name, b"GREECE", GREECE)
-        .or(name, b"LATVIA", LATVIA)
-        .or(name, b"NORWAY", NORWAY)
-        .or(name, b"POLAND", POLAND)
-        .or(name, b"RUSSIA", RUSSIA)
-        .or(name, b"SWEDEN", SWEDEN)
-        .or(name, b"TURKEY", TURKEY)
-}
-
-fn of_seven(name: &[u8]) -> Found
-    ensures { result ≡ among name.now (of_length 7 table) }
-{
-    Found::Nothing
-        .or(name, b"ALBANIA", ALBANIA)
-        .or(name, b"AUSTRIA", AUSTRIA)
-        .or(name, b"BELGIUM", BELGIUM)
-        .or(name, b"DENMARK", DENMARK)
-        .or(name, b"FINLAND", FINLAND)
-        .or(name, b"GERMANY", GERMANY)
-        .or(name, b"HUNGARY", HUNGARY)
-        .or(name, b"ICELAND", ICELAND)
-        .or(name, b"ROMANIA", ROMANIA)
-}
-
-fn of_eight(name: &[u8]) -> Found
-    ensures { result ≡ among name.now (of_length 8 table) }
-{
-    Found::Nothing
-        .or(name, b"BULGARIA", BULGARIA)
-        .or(name, b"PORTUGAL", PORTUGAL)
-        .or(name, b"SLOVENIA", SLOVENIA)
-}
-
-fn of_nine(name: &[u8]) -> Found
-    ensures { result ≡ among name.now (of_length 9 table) }
-{
-    Found::Nothing
-        .or(name, b"GREGORIAN", Calendar::GREGORIAN)
-        .or(name, b"AUSTRALIA", AUSTRALIA)
-        .or(name, b"LITHUANIA", LITHUANIA)
-}
-
-fn of_ten(name: &[u8]) -> Found
-    ensures { result ≡ among name.now (of_length 10 table) }
-{
-    Found::Nothing
-        .or(name, b"LUXEMBOURG", LUXEMBOURG)
-        .or(name, b"YUGOSLAVIA", YUGOSLAVIA)
-}
-
-fn of_eleven(name: &[u8]) -> Found
-    ensures { result ≡ among name.now (of_length 11 table) }
-{
-    Found::Nothing
-        .or(name, b"NETHERLANDS", NETHERLANDS)
-        .or(name, b"SWITZERLAND", SWITZERLAND)
-}
-
-fn of_thirteen(name: &[u8]) -> Found
-    ensures { result ≡ among name.now (of_length 13 table) }
-{
-    Found::Nothing.or(name, b"UNITED_STATES", UNITED_STATES)
-}
-
-fn of_fourteen(name: &[u8]) -> Found
-    ensures { result ≡ among name.now (of_length 14 table) }
-{
-    Found::Nothing
-        .or(name, b"CZECH_REPUBLIC", CZECH_REPUBLIC)
-        .or(name, b"UNITED_KINGDOM", UNITED_KINGDOM)
-}
-
-// Byte by byte.
 fn same(name: &[u8], own: &[u8]) -> bool
     ensures { Whether (name.now ≡ own.now) result }
 {
-    if name.len() != own.len() {
-        return false;
-    }
-    let mut i = 0;
-    while i < own.len() {
-        if name[i] != own[i] {
-            return false;
-        }
-        i += 1;
-    }
-    true
+    name.len() == own.len() && name.iter().zip(own).all(|(a, b)| a == b)
 }

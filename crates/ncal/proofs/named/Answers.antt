@@ -2,8 +2,8 @@
 use Rattle.ncal.specs.Laws.{is_named, not_named}
 use Rattle.ncal.proofs.named.Goals as goal
 
-pub returns-in-Ok : goal.returns-in-Ok
-returns-in-Ok c = is_named (rw c.in-Ok.is at c.look_up.ensures)
+pub returns-in-Some : goal.returns-in-Some
+returns-in-Some c = is_named (rw c.in-Some.is at c.look_up.ensures)
 
-pub returns-in-Nothing : goal.returns-in-Nothing
-returns-in-Nothing c = rw c.refusal_of.ensures (not_named (rw c.in-Nothing.is at c.look_up.ensures))
+pub returns-in-None : goal.returns-in-None
+returns-in-None c = rw c.refusal_of.ensures (not_named (rw c.in-None.is at c.look_up.ensures))
