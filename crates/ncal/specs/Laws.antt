@@ -1,12 +1,13 @@
 -- A name is found among rows as among those of its length alone, and what is found is the promise.
 -- Assumes nothing.
-use Rattle.std.specs.Prelude.{◌≡◌, refl, Bool, true, false, cond, ◌&&◌, ◌||◌, ◌⊎◌, ℕ, T, eqb, length, Option, Some, None, Result, Ok}
+use Rattle.std.specs.Prelude.{◌≡◌, refl, Bool, true, false, cond, ◌&&◌, ◌||◌, ◌⊎◌, ℕ, T, eqb, length, pos, Option, Some, None, Result, Ok, ok_or}
 use Rattle.std.proofs.Common.{sym, ◌∙◌, ap, ap₂, subst, inl, inr, ⊎_elim, arith, ne_eqb}
 use mathlib.Core.List.Memᴰ
 use mathlib.Core.List.{List, [], ◌∷◌, Memᴰ}
 use Rattle.std.proofs.lemmas.Bool.{eqb-false}
 use Rattle.std.proofs.Math.Facts.{and_yes}
 use Rattle.whole.specs.Tests.{true_or_false}
+use Rattle.calendar.specs.Promise.{refusal}
 use Rattle.calendar.specs.Rows.{refuses, passes}
 use Rattle.calendar.specs.declared.Calendar.{Calendar}
 use Rattle.ncal.specs.Every.{eq_list, eq_list_lem, list_eq}
@@ -140,3 +141,7 @@ is_named = found_named
 
 pub not_named : {s : List ℕ} → FoundAs s None → NamesCalendar s unknown_name_value
 not_named = found_named
+
+pub named_as : {s : List ℕ} {o : Option Calendar} → FoundAs s o → NamesCalendar s (ok_or o (refusal 19 (pos 0)))
+named_as (in_table i) = is_named (in_table i)
+named_as (in_no_row n) = not_named (in_no_row n)

@@ -120,10 +120,7 @@ pub const YUGOSLAVIA: Calendar = Calendar::Reforming(2_422_036);
 pub fn named(name: &[u8]) -> Result<Calendar, Refusal>
     ensures { NamesCalendar name.now result }
 {
-    match look_up(name) {
-        Some(c) => Ok(c),
-        None => Err(refusal_of(19, 0)),
-    }
+    look_up(name).ok_or(refusal_of(19, 0))
 }
 
 // Among all of them. A name is compared with those of its own length. One that is none here may still be one elsewhere, so this is no refusal.
