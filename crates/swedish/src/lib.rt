@@ -11,9 +11,8 @@ ghost use Rattle.swedish.specs.Promise.{MonthIs, SpansMonth, YearSpan, Finds, Sp
 ghost use Rattle.swedish.specs.Private.{Plain, Refuses, Labelled};
 
 use inner::Spot;
-use refusals::refusal_with;
+use refusals::{Refusal, refusal_with};
 use switches::{MonthSpan, Span};
-use refusals::Refusal;
 
 // March of 1700, of 1712 and of 1753, with the months of the biased years counted through.
 const MARCH_1700: u64 = 25_769_828_403;
@@ -91,10 +90,7 @@ fn days_of(year: u32, month: u32) -> Span
 pub fn month_span(year: u32, month: u32) -> Result<MonthSpan, Refusal>
     ensures { SpansMonth (biased_year_value year) month result }
 {
-    if month < 1 {
-        return Err(refusal_with(3, month));
-    }
-    if 12 < month {
+    if month < 1 || 12 < month {
         return Err(refusal_with(3, month));
     }
     let m = days_of(year, month);
@@ -125,13 +121,7 @@ pub fn year_span(year: u32) -> Span
 pub fn find(year: u32, month: u32, day: u32) -> Result<Spot, Refusal>
     ensures { Finds year month day result }
 {
-    if month < 1 {
-        return Err(refusal_with(4, day));
-    }
-    if 12 < month {
-        return Err(refusal_with(4, day));
-    }
-    if day < 1 {
+    if month < 1 || 12 < month || day < 1 {
         return Err(refusal_with(4, day));
     }
     let m = days_of(year, month);
@@ -140,39 +130,25 @@ pub fn find(year: u32, month: u32, day: u32) -> Result<Spot, Refusal>
         let january = days_of(year, 1);
         return Ok(Spot {
             ordinal: (biased + 1 - january.first) as u32,
-            biased: biased,
-            year: year,
-            month: month,
-            day: day,
+            biased,
+            year,
+            month,
+            day,
         });
     }
-    let number = refusal_number(year, month, day);
-    Err(refusal_with(number, day))
+    Err(refusal_with(refusal_number(year, month, day), day))
 }
 
 // Of a label that no day bears: 29 February 1700 and 18 to 28 February 1753 are skipped.
+#[tactic(auto, using(crate::specs::Laws::no_gap, crate::specs::Laws::gap_1700, crate::specs::Laws::gap_1753))]
 fn refusal_number(year: u32, month: u32, day: u32) -> u32
     ensures { Refuses (biased_year_value year) month day result }
 {
-    if month != 2 {
-        return 4;
+    match (year, month, day) {
+        (IN_1700, 2, 29) => 5,
+        (IN_1753, 2, 18..=28) => 5,
+        _ => 4,
     }
-    if year == IN_1700 {
-        if day == 29 {
-            return 5;
-        }
-        return 4;
-    }
-    if year != IN_1753 {
-        return 4;
-    }
-    if day < 18 {
-        return 4;
-    }
-    if 28 < day {
-        return 4;
-    }
-    5
 }
 
 // ---- The label of a day
@@ -208,7 +184,7 @@ pub fn spot_on(raised: u32) -> Spot
     }
     Spot {
         ordinal: 61,
-        biased: biased,
+        biased,
         year: 2_147_485_360,
         month: 2,
         day: 30,
@@ -238,8 +214,8 @@ fn labelled(biased: u64, year: u32, ordinal: u32, leap: bool) -> Spot
     let january = days_of(year, 1);
     Spot {
         ordinal: (biased + 1 - january.first) as u32,
-        biased: biased,
-        year: year,
+        biased,
+        year,
         month: at.month,
         day: at.day,
     }

@@ -5,15 +5,14 @@ use Rattle.inner.specs.Laws.{raised_year_biased}
 use Rattle.swedish.specs.Promise.{finds}
 use Rattle.swedish.specs.Laws.{month_room, on_day, in_year, refused_row, no_month_row, no_day_row}
 use Rattle.swedish.proofs.find.Goals as goal
+use Rattle.swedish.proofs.find.Goals.{then-month-lt1-via-then-month-lt1, then-month-lt1-via-else-month-lt1+then-month-gt12, then-month-lt1-via-else-month-lt1+else-month-gt12+then-day-lt1}
 
 pub returns-then-month-lt1 : goal.returns-then-month-lt1
-returns-then-month-lt1 c = rw c.refusal_with.ensures (no_month_row c.args.year c.args.month c.args.day (λ v. omega (arith, v.0, c.if-month-lt1.true)))
-
-pub returns-then-month-gt12 : goal.returns-then-month-gt12
-returns-then-month-gt12 c = rw c.refusal_with-then-month-gt12.ensures (no_month_row c.args.year c.args.month c.args.day (λ v. omega (arith, v.1, c.if-month-gt12.true)))
-
-pub returns-then-day-lt1 : goal.returns-then-day-lt1
-returns-then-day-lt1 c = rw c.refusal_with-then-day-lt1.ensures (no_day_row c.args.year c.args.month c.args.day c.if-day-lt1.true)
+returns-then-month-lt1 c = rw c.refusal_with.ensures (elim c.then-month-lt1.branch [
+  | then-month-lt1-via-then-month-lt1 w ↦ no_month_row c.args.year c.args.month c.args.day (λ v. omega (arith, v.0, w.if-month-lt1.true))
+  | then-month-lt1-via-else-month-lt1+then-month-gt12 w ↦ no_month_row c.args.year c.args.month c.args.day (λ v. omega (arith, v.1, w.if-month-gt12.true))
+  | then-month-lt1-via-else-month-lt1+else-month-gt12+then-day-lt1 w ↦ no_day_row c.args.year c.args.month c.args.day w.if-day-lt1.true
+])
 
 pub overflow_add-biased : goal.overflow_add-biased
 overflow_add-biased c =
@@ -43,5 +42,5 @@ returns-then-biased-m c =
 
 pub returns : goal.returns
 returns c =
-    rw c.refusal_with-2.ensures (refused_row c.args.year c.args.month c.args.day c.refusal_number-number.result (raised_year_biased c.ranges.year.fits) (c.if-month-lt1.false, c.if-month-gt12.false) c.days_of-m.ensures c.if-day-lt1.false
-    c.if-biased-m.false c.refusal_number-number.ensures)
+    rw c.refusal_with-2.ensures (refused_row c.args.year c.args.month c.args.day c.refusal_number.result (raised_year_biased c.ranges.year.fits) (c.if-month-lt1.false, c.if-month-gt12.false) c.days_of-m.ensures c.if-day-lt1.false
+    c.if-biased-m.false c.refusal_number.ensures)
