@@ -1,5 +1,5 @@
 -- What the proofs need: of pieces written one after another, and of a pattern filled from its first byte on.
-use Rattle.std.specs.Prelude.{ℕ, zero, suc, ◌+◌, ◌≤◌, ◌<◌, ◌^◌, ◌≡◌, refl, Bool, true, false, cond, ◌||◌, List, [], ◌∷◌, ◌++◌, length, get_or, drop, set, ltb, eqb, ℤ, pos, nat_abs, Ok, Err, Some, None}
+use Rattle.std.specs.Prelude.{ℕ, zero, suc, ◌+◌, ◌≤◌, ◌<◌, ◌^◌, ◌≡◌, refl, Bool, true, false, cond, ◌||◌, List, [], ◌∷◌, ◌++◌, length, get_or, drop, set, ltb, eqb, ℤ, pos, nat_abs, Result, Ok, Err, IsOk, Some, None}
 use Rattle.std.proofs.Math.Path.{sym, ap}
 use Rattle.std.proofs.Common.{◌∙◌, ap₂, subst, append_assoc, append-nil, ⊎_elim, arith, length-append, drop-cons, drop-drop, to_z-of_z}
 use Rattle.std.proofs.Math.Seq.{drop-nil}
@@ -85,6 +85,10 @@ number_done x {neg} {n} e a fits (Writes.writes (Signs.signs {k} w) (Puts.done h
 
 pub number_never : {neg : Bool} {n : ℕ} {b : List ℕ} {at : ℕ} {b' : List ℕ} {f : Refusal} → n < 2 ^ 64 → at + 21 ≤ length b → Writes (Signs neg n) b at b' (Err f) → ⊥
 number_never {neg} {n} fits h (Writes.writes (Signs.signs {k} w) (Puts.short l)) = omega (arith, signs_short neg n k (width_few w fits))
+
+pub number_told : {neg : Bool} {n : ℕ} {b : List ℕ} {at : ℕ} {b' : List ℕ} (r : Result ℕ Refusal) → n < 2 ^ 64 → at + 21 ≤ length b → Writes (Signs neg n) b at b' r → IsOk r
+number_told (Ok i) fits h w = refl
+number_told (Err f) fits h w = absurd (number_never fits h w)
 
 -- ---- past the end of a list nothing is left
 

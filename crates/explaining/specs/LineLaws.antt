@@ -1,5 +1,5 @@
 -- What the proofs need: of the parts of a line, and of the paragraph for it.
-use Rattle.std.specs.Prelude.{ℕ, ◌≤◌, ◌<◌, ◌≡◌, List, [], length, take, drop, ℤ, pos, Result, Ok, Err, Some, None}
+use Rattle.std.specs.Prelude.{ℕ, ◌≤◌, ◌<◌, ◌≡◌, List, [], length, take, drop, ℤ, pos, Result, Ok, Err, Option, Some, None, ok_or}
 use Rattle.std.proofs.Common.{sym, ◌∙◌, ap, subst, arith}
 use Rattle.days.specs.DayByDay.{Timeline}
 use Rattle.writer.specs.Promise.{Copies, Puts, Writes}
@@ -70,6 +70,10 @@ puts_done (Copies.copied h) = Puts.done h
 
 pub puts_short : {t b : List ℕ} {at : ℕ} {b' : List ℕ} {f : Refusal} {n : ℕ} → Copies t b at b' None → f ≡ refusal 18 0 (pos n) → n ≡ length t → Puts t b at b' (Err f)
 puts_short {t} {b} {at} {b'} (Copies.no_room h) e k = subst (λ (g : Refusal). Puts t b at b' (Err g)) (sym (e ∙ ap (λ (n : ℕ). refusal 18 0 (pos n)) k)) (Puts.short h)
+
+pub puts_told : {t b : List ℕ} {at : ℕ} {b' : List ℕ} {f : Refusal} {n : ℕ} (o : Option ℕ) → Copies t b at b' o → f ≡ refusal 18 0 (pos n) → n ≡ length t → Puts t b at b' (ok_or o f)
+puts_told (Some i) h e k = puts_done h
+puts_told None h e k = puts_short h e k
 
 module _ {P : List ℕ → Type 0} {z z' : List ℕ} {n : ℕ} (t : Text P longest_paragraph z 0 z' n) where
   pub apart_writes : {b : List ℕ} {at : ℕ} {b' : List ℕ} {r : Result ℕ Refusal} → Puts (take n z') b at b' r → Writes P b at b' r

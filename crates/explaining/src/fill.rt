@@ -21,10 +21,7 @@ pub fn put_text(out: &mut [u8], at: usize, text: &[u8]) -> usize
     requires { at + length text.now ≤ length out.old }
     ensures { PutText out.old at text.now out.new result }
 {
-    match buffer::copy_text(out, at, text) {
-        Some(end) => end,
-        None => at,
-    }
+    buffer::copy_text(out, at, text).unwrap_or(at)
 }
 
 fn shown_byte(b: u8) -> u8
@@ -44,10 +41,8 @@ pub fn put_shown(out: &mut [u8], at: usize, text: &[u8]) -> usize
     requires { at + length text.now ≤ length out.old }
     ensures { PutText out.old at (shown text.now) out.new result }
 {
-    let mut i: usize = 0;
-    while i < text.len() {
-        out[at + i] = shown_byte(text[i]);
-        i += 1;
+    for (i, b) in text.iter().enumerate() {
+        out[at + i] = shown_byte(*b);
     }
     at + text.len()
 }
@@ -58,10 +53,7 @@ pub fn put_number(out: &mut [u8], at: usize, x: i64) -> usize
 {
     let negative = whole::is_negative(x);
     let n = whole::magnitude(x);
-    match writer::put_at(out, at, negative, n) {
-        Ok(end) => end,
-        Err(_) => at,
-    }
+    writer::put_at(out, at, negative, n).unwrap()
 }
 
 // What stands for one byte of a pattern, where `used` numbers are used up.
@@ -117,12 +109,9 @@ pub fn fill(
 {
     let mut end = at;
     let mut used: usize = 0;
-    let mut i: usize = 0;
-    while i < pattern.len() {
-        let b = pattern[i];
-        end = put_piece(out, end, b, numbers, used, name, text);
-        used = used_after(b, used);
-        i += 1;
+    for (i, b) in pattern.iter().enumerate() {
+        end = put_piece(out, end, *b, numbers, used, name, text);
+        used = used_after(*b, used);
     }
     end
 }

@@ -23,9 +23,9 @@ use calendar::Calendar;
 use catalogue::Names;
 pub use entry::LONGEST_ENTRY;
 use reasons::Reason;
+use refusals::Refusal;
 pub use sentences::LONGEST_PARAGRAPH;
 use writer::buffer;
-use refusals::Refusal;
 
 // The paragraph of its answer, from `at` on.
 pub fn explain_line(names: &Names, line: &[u8], out: &mut [u8], at: usize) -> Result<usize, Refusal>
@@ -46,7 +46,12 @@ pub fn explain_too_long(out: &mut [u8], at: usize) -> Result<usize, Refusal>
 }
 
 // So many bytes from the front of a buffer. The array is lent as a slice first, of which a part is lent then.
-fn put_front(out: &mut [u8], at: usize, apart: &[u8; LONGEST_PARAGRAPH], size: usize) -> Result<usize, Refusal>
+fn put_front(
+    out: &mut [u8],
+    at: usize,
+    apart: &[u8; LONGEST_PARAGRAPH],
+    size: usize,
+) -> Result<usize, Refusal>
     requires { size ≤ longest_paragraph }
     ensures { Puts (take size apart.now) out.old at out.new result }
 {
@@ -57,18 +62,11 @@ fn put_part(out: &mut [u8], at: usize, apart: &[u8], size: usize) -> Result<usiz
     requires { (size ≤ length apart.now) × (size ≤ longest_paragraph) }
     ensures { Puts (take size apart.now) out.old at out.new result }
 {
-    match buffer::copy_text(out, at, &apart[..size]) {
-        Some(end) => Ok(end),
-        None => Err(refusals::refusal_with(18, size as u32)),
-    }
+    buffer::copy_text(out, at, &apart[..size]).ok_or(refusals::refusal_with(18, size as u32))
 }
 
 // At the front of a buffer of its own, so that a buffer too short for it stays as it was.
-fn put_paragraph(
-    names: &Names,
-    line: &[u8],
-    apart: &mut [u8; LONGEST_PARAGRAPH],
-) -> usize
+fn put_paragraph(names: &Names, line: &[u8], apart: &mut [u8; LONGEST_PARAGRAPH]) -> usize
     ensures { Text (Paragraph (NamesIn names.now) line.now) longest_paragraph apart.old 0 apart.new result }
 {
     if LONGEST_ENTRY < line.len() {
@@ -76,13 +74,7 @@ fn put_paragraph(
     }
     let parts = entry::parts_of(line);
     match named_before(names, line, parts.name_end) {
-        Err(why) => put_unnamed(
-            apart,
-            line,
-            parts.name_end,
-            parts.text_from,
-            why.number,
-        ),
+        Err(why) => put_unnamed(apart, line, parts.name_end, parts.text_from, why.number),
         Ok(calendar) => {
             let reason = explained_from(calendar, line, parts.text_from);
             put_reason(apart, line, parts.name_end, parts.text_from, reason)

@@ -14,10 +14,8 @@ fn put_spaces(out: &mut [u8], at: usize, n: usize) -> usize
     requires { at + n ≤ length out.old }
     ensures { PutText out.old at (spaces n) out.new result }
 {
-    let mut i: usize = 0;
-    while i < n {
+    for i in 0..n {
         out[at + i] = b' ';
-        i += 1;
     }
     at + n
 }
