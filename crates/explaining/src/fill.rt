@@ -109,7 +109,7 @@ pub fn fill(
 {
     let mut end = at;
     let mut used: usize = 0;
-    for (i, b) in pattern.iter().enumerate() {
+    for b in pattern {
         end = put_piece(out, end, *b, numbers, used, name, text);
         used = used_after(*b, used);
     }

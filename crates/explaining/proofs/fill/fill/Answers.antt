@@ -3,10 +3,10 @@ use Rattle.explaining.specs.Laws.{going_room, going_on, going_done}
 use Rattle.explaining.proofs.fill.fill.Goals as goal
 
 pub put_piece-end-requires : goal.put_piece-end-requires
-put_piece-end-requires c = going_room c.loop-i.invariant c.requires c.loop-i-test.true
+put_piece-end-requires c = going_room c.loop-b.invariant c.requires c.loop-b-test.true
 
-pub loop-i-preserved : goal.loop-i-preserved
-loop-i-preserved c = going_on c.loop-i.invariant c.requires c.loop-i-test.true c.put_piece-end.auto.out c.used_after-used.ensures c.put_piece-end.ensures
+pub loop-b-preserved : goal.loop-b-preserved
+loop-b-preserved c = going_on c.loop-b.invariant c.requires c.loop-b-test.true c.put_piece-end.auto.out c.used_after-used.ensures c.put_piece-end.ensures
 
 pub returns : goal.returns
-returns c = going_done c.loop-i.invariant c.requires c.loop-i-test.false
+returns c = going_done c.loop-b.invariant c.requires c.loop-b-test.false

@@ -2,5 +2,5 @@
 use Rattle.explaining.specs.Laws.{Going}
 use Rattle.explaining.proofs.fill.fill.Given as goal
 
-abbrev pub invariant-loop-i : goal.invariant-loop-i
-invariant-loop-i l = Going l.name l.text l.pattern l.numbers l.initial.out l.at l.out l.end l.used l.i
+abbrev pub invariant-loop-b : goal.invariant-loop-b
+invariant-loop-b l = Going l.name l.text l.pattern l.numbers l.initial.out l.at l.out l.end l.used l.b-index
