@@ -1,10 +1,11 @@
 -- What the proofs need: how a line is held and written, and how a block is cut into lines.
 -- Assumes nothing.
-use Rattle.std.specs.Prelude.{ℕ, ◌+◌, ◌≤◌, ◌<◌, ◌≡◌, refl, List, [], length, take, pos, Result, Ok, Err}
+use Rattle.std.specs.Prelude.{ℕ, ◌+◌, ◌≤◌, ◌<◌, ◌≡◌, refl, List, [], length, pos, Option, Some, None, ok_or, Result, Ok, Err}
+use Rattle.std.specs.Result.{result_unwrap_or}
 use Rattle.std.proofs.Common.{sym, subst, ◌∙◌, arith}
-use Rattle.writer.specs.Promise.{Writes, put, Puts}
-use Rattle.writer.specs.Laws.{wrote, left_alone}
-use Rattle.writer.proofs.PutLaws.{put_none, length_put}
+use Rattle.writer.specs.Promise.{Writes, put, Puts, Copies, copied, no_room}
+use Rattle.writer.specs.Laws.{left_alone}
+use Rattle.writer.proofs.PutLaws.{length_put}
 use Rattle.refusals.specs.Promise.{refusal as textRefusal}
 use Rattle.refusals.specs.declared.Refusal.{Refusal}
 use Rattle.linetext.specs.Line.{longest_line}
@@ -23,37 +24,36 @@ use Rattle.linetext.specs.declared.LineNumbers.{LineNumbers}
 
 -- ---- the line that is held
 
-pub answered_short : {l : List ℕ} {n : ℕ} {a : Result Date Refusal} {m : Result LineNumbers Refusal} {N : Naming} → n ≤ longest_entry → LineAnswer N (take n l) a → m ≡ line_of a → HeldAs N l n m
-answered_short {l} {n} {N = N} h q e = subst (HeldAs N l n) (sym e) (HeldAs.held_as (HeldAnswer.short h q))
+pub answered_long : {l : List ℕ} {n : ℕ} {why : Refusal} {N : Naming} → longest_entry < n → why ≡ textRefusal 20 0 (pos 0) → HeldAs N l n (Err why)
+answered_long {l} {n} {N = N} h e = subst (λ (f : Refusal). HeldAs N l n (Err f)) (sym e) (HeldAs.held_as (HeldAnswer.long h))
 
 pub held_short : {l : List ℕ} {n : ℕ} {t : List ℕ} {N : Naming} → HeldLine N l n t → length t ≤ longest_line
 held_short (HeldLine.held_line h x) = x.short
 
 -- ---- the last line
 
-none_is : {l : List ℕ} {n : ℕ} {N : Naming} → n ≤ 0 → LastLine N l n []
-none_is {l} {n} {N} h = let e : 0 ≡ n = omega arith in subst (λ (k : ℕ). LastLine N l k []) e LastLine.no_more
-
 module _ {l : List ℕ} {n : ℕ} {b : List ℕ} {at : ℕ} where
   pub last_held : {m : Result LineNumbers Refusal} {b' : List ℕ} {r : Result ℕ Refusal} {N : Naming} → 0 < n → HeldAs N l n m → Writes (LineOut m) b at b' r → Writes (LastLine N l n) b at b' r
   last_held h (HeldAs.held_as g) (Writes.writes t p) = Writes.writes (LastLine.one_more h (HeldLine.held_line g t)) p
 
-  pub last_none : {N : Naming} → n ≤ 0 → at + 0 ≤ length b → Writes (LastLine N l n) b at b (Ok at)
-  last_none h k = wrote (none_is h) k (record { is = sym (put_none b at); offset = omega arith })
-
-  pub last_left : {f : Refusal} {N : Naming} → n ≤ 0 → length b < at + 0 → f ≡ textRefusal 18 0 (pos 0) → Writes (LastLine N l n) b at b (Err f)
-  last_left h k e = left_alone [] (none_is h) refl k e
+  -- where nothing is held, no bytes are put, and the place for them may still lie past the end
+  pub last_none : {N : Naming} {b' : List ℕ} {o : Option ℕ} {f : Refusal} {r : Result ℕ Refusal} → n ≡ 0 → Copies [] b at b' o → f ≡ textRefusal 18 0 (pos 0) → r ≡ ok_or o f → Writes (LastLine N l n) b at b' r
+  last_none {N} {b'} {o} {f} {r} z c g e = subst (λ (k : ℕ). Writes (LastLine N l k) b at b' r) (sym z) (subst (Writes (LastLine N l 0) b at b') (sym e) (by o c))
+    where
+      by : (o : Option ℕ) {c : List ℕ} → Copies [] b at c o → Writes (LastLine N l 0) b at c (ok_or o f)
+      by (Some i) (copied h) = Writes.writes LastLine.no_more (Puts.done h)
+      by None (no_room h) = left_alone [] LastLine.no_more refl h g
 
 -- ---- a text as IsText says was put into b at `at`, and i is the offset after it
 
 pub data Wrote (IsText : List ℕ → Type 0) (b : List ℕ) (at : ℕ) : List ℕ → ℕ → Type 0 where
   wrote_it : {t : List ℕ} → IsText t → at + length t ≤ length b → Wrote IsText b at (put b at t) (at + length t)
 
-pub held_wrote : {l : List ℕ} {n : ℕ} {m : Result LineNumbers Refusal} {b : List ℕ} {at : ℕ} {b' : List ℕ} {i : ℕ} {N : Naming} → HeldAs N l n m → Writes (LineOut m) b at b' (Ok i) → Wrote (HeldLine N l n) b at b' i
-held_wrote (HeldAs.held_as h) (Writes.writes x (Puts.done k)) = wrote_it (HeldLine.held_line h x) k
-
-pub held_room : {m : Result LineNumbers Refusal} {b : List ℕ} {at : ℕ} {b' : List ℕ} {f : Refusal} → at + longest_line ≤ length b → Writes (LineOut m) b at b' (Err f) → ⊥
-held_room k (Writes.writes x (Puts.short s)) = omega (arith, x.short)
+-- with room for the longest line nothing is refused
+pub held_wrote : {l : List ℕ} {n : ℕ} {m : Result LineNumbers Refusal} {b : List ℕ} {at : ℕ} {b' : List ℕ} (r : Result ℕ Refusal) {N : Naming} → at + longest_line ≤ length b → HeldAs N l n m → Writes (LineOut m) b at b' r
+    → Wrote (HeldLine N l n) b at b' (result_unwrap_or r at)
+held_wrote (Ok i) k (HeldAs.held_as h) (Writes.writes x (Puts.done j)) = wrote_it (HeldLine.held_line h x) j
+held_wrote (Err f) k h (Writes.writes x (Puts.short s)) = absurd (omega (arith, x.short))
 
 -- ---- one line of the block, or what the block has of it
 

@@ -1,32 +1,28 @@
 // The answer to the line that is held from one block of input to the next, once it has ended.
 
-ghost use Rattle.std.specs.Prelude.{◌≤◌, length, take};
 ghost use Rattle.writer.specs.Promise.{Writes};
 ghost use Rattle.catalogue.specs.Promise.{NamesIn};
-ghost use Rattle.entry.specs.Promise.{LineAnswer};
 ghost use Rattle.listing.specs.Promise.{HeldAs, LastLine};
 
 use catalogue::Names;
 use entry::LONGEST_ENTRY;
-use writer::buffer;
+use linetext::LineNumbers;
 use refusals::Refusal;
-
-fn front_answer(names: &Names, line: &[u8], held: usize) -> Result<Date, Refusal>
-    requires { held ≤ length line.now }
-    ensures { LineAnswer (NamesIn names.now) (take held line.now) result }
-{
-    entry::line_answer(names, &line[..held])
-}
+use writer::buffer;
 
 // The answer to it, as a line of the listing.
-#[tactic(auto, using(crate::specs::Laws::answered_short))]
-pub fn held_line(names: &Names, line: &[u8; LONGEST_ENTRY], held: usize) -> Result<LineNumbers, Refusal>
+#[tactic(auto, using(crate::specs::Laws::answered_long))]
+pub fn held_line(
+    names: &Names,
+    line: &[u8; LONGEST_ENTRY],
+    held: usize,
+) -> Result<LineNumbers, Refusal>
     ensures { HeldAs (NamesIn names.now) line.now held result }
 {
-    if held <= LONGEST_ENTRY {
-        return columns::line_of(front_answer(names, line, held));
+    if LONGEST_ENTRY < held {
+        return Err(refusals::refusal_of(20, 0));
     }
-    Err(calendar::refusal_of(20, 0))
+    columns::line_of(entry::line_answer(names, &line[..held]))
 }
 
 // The last line of the input, which needs no newline.
@@ -39,12 +35,8 @@ pub fn list_last(
 ) -> Result<usize, Refusal>
     ensures { Writes (LastLine (NamesIn names.now) line.now held) out.old at out.new result }
 {
-    let some = 0 < held;
-    if some {
+    if 0 < held {
         return linetext::put_line(out, at, held_line(names, line, held));
     }
-    if buffer::has_room(out.len(), at, 0) {
-        return Ok(at);
-    }
-    Err(refusals::refusal_with(18, 0))
+    buffer::copy_text(out, at, &[]).ok_or(refusals::refusal_with(18, 0))
 }

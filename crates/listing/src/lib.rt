@@ -59,39 +59,35 @@ fn put_held(
     requires { at + longest_line ≤ length out.old }
     ensures { Wrote (HeldLine (NamesIn names.now) line.now held) out.old at out.new result }
 {
-    match linetext::put_line(out, at, held_line(names, line, held)) {
-        Ok(next) => next,
-        Err(_) => at,
-    }
+    linetext::put_line(out, at, held_line(names, line, held)).unwrap_or(at)
 }
 
 // Lists one line of the block, or holds what the block has of it.
 fn list_next(
     names: &Names,
     block: &[u8],
-    at: usize,
     line: &mut [u8; LONGEST_ENTRY],
-    held: usize,
     out: &mut [u8],
-    used: usize,
+    from: Progress,
 ) -> Progress
-    requires { (at < length block.now) × (used + longest_line ≤ length out.old) }
-    ensures { NextLine (NamesIn names.now) block.now (block_state at line.old held out.old used) (block_state result.at line.new result.held out.new result.used) }
+    requires { (from.at < length block.now) × (from.used + longest_line ≤ length out.old) }
+    ensures { NextLine (NamesIn names.now) block.now (block_state from.at line.old from.held out.old from.used) (block_state result.at line.new result.held out.new result.used) }
 {
+    let at = from.at;
     let end = bytesearch::up_to(block, at, b'\n');
-    let n = add_to_line(line, held, &block[at..end]);
+    let n = add_to_line(line, from.held, &block[at..end]);
     if end < block.len() {
-        let next = put_held(names, line, n, out, used);
+        let used = put_held(names, line, n, out, from.used);
         return Progress {
             at: end + 1,
             held: 0,
-            used: next,
+            used,
         };
     }
     Progress {
         at: end,
         held: n,
-        used,
+        used: from.used,
     }
 }
 
@@ -112,12 +108,8 @@ pub fn list_block(
         held,
         used,
     };
-    while p.at < block.len() {
-        if buffer::has_room(out.len(), p.used, LONGEST_LINE) {
-            p = list_next(names, block, p.at, line, p.held, out, p.used);
-        } else {
-            return p;
-        }
+    while p.at < block.len() && buffer::has_room(out.len(), p.used, LONGEST_LINE) {
+        p = list_next(names, block, line, out, p);
     }
     p
 }

@@ -19,14 +19,8 @@ loop-p-smaller c = omega (arith, next_grows c.list_next-p.ensures c.loop-p-test.
 pub loop-p-preserved : goal.loop-p-preserved
 loop-p-preserved c = reaches_on c.loop-p.invariant c.loop-p-test.true (leb-true _ _ (sym c.has_room.ensures ∙ c.if-has_room.true)) c.list_next-p.ensures (search rules)
 
-pub shape_of-out-else-has_room : goal.shape_of-out-else-has_room
-shape_of-out-else-has_room c = c.loop-p.invariant.long
-
 pub returns-else-has_room : goal.returns-else-has_room
 returns-else-has_room c = c.loop-p.invariant.onward _ (Lists.out_of_room (leb-false _ _ (sym c.has_room.ensures ∙ c.if-has_room.false)))
 
-pub shape_of-out : goal.shape_of-out
-shape_of-out c = c.loop-p.invariant.long
-
-pub returns : goal.returns
-returns c = c.loop-p.invariant.onward _ (Lists.block_ends c.loop-p-test.false)
+pub returns-after-loop-p : goal.returns-after-loop-p
+returns-after-loop-p c = c.loop-p.invariant.onward _ (Lists.block_ends c.loop-p-test.false)

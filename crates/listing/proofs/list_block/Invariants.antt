@@ -1,7 +1,6 @@
 -- `listing::list_block` meets its promise. The loop's invariant is `Reaches`: what is still to come leads from where the block was begun. The measure is what is left of the block.
 use Rattle.listing.specs.Promise.{block_state}
 use Rattle.listing.specs.Laws.{Reaches}
-use Rattle.nametable.specs.Promise.{memory}
 use Rattle.catalogue.specs.Promise.{NamesIn}
 use lib.ListN.{length}
 use Prim.Native.Nat.{◌-◌}

@@ -20,7 +20,7 @@ slice_bounds-add_to_line-end c =
     omega (arith, i.0, i.1)
 
 pub returns-then-end-block : goal.returns-then-end-block
-returns-then-end-block c = next_line (takes_line c.add_to_line-n.ensures c.requires.0 c.up_to-end.ensures c.if-end-block.true) c.put_held-next.ensures
+returns-then-end-block c = next_line (takes_line c.add_to_line-n.ensures c.requires.0 c.up_to-end.ensures c.if-end-block.true) c.put_held-used.ensures
 
 pub returns : goal.returns
 returns c = NextLine.rest (takes_rest c.add_to_line-n.ensures c.requires.0 c.up_to-end.ensures c.if-end-block.false)

@@ -4,4 +4,4 @@ use native.Mathlib.Omega.{arith}
 use Rattle.listing.proofs.held.held_line.Goals as goal
 
 pub returns : goal.returns
-returns c = rw c.refusal_of.ensures (HeldAs.held_as (HeldAnswer.long (omega arith)))
+returns c = rw c.line_of.ensures (HeldAs.held_as (HeldAnswer.short (omega arith) c.line_answer.ensures))
