@@ -18,10 +18,7 @@ use refusals::{Refusal, refusal_at};
 fn is_taken(names: &Names, name: &[u8]) -> bool
     ensures { IsTaken names.now name.now result }
 {
-    match ncal::look_up(name) {
-        Some(_) => true,
-        None => names.find(name).is_some(),
-    }
+    ncal::look_up(name).is_some() || names.find(name).is_some()
 }
 
 // 11 or 28, of line n: the place in the line, at which its number leaves 32 bits, is the value.
