@@ -1,9 +1,7 @@
 -- From what the calls below say to the promises.
 -- Assumes nothing.
-use Rattle.std.specs.Prelude.{ℕ, ◌+◌, ◌≤◌, ◌≡◌, refl, Bool, true, false, cond, List, ◌++◌, eqb, ℤ, pos, negsuc, length, Some, None}
-use Rattle.std.proofs.Common.{sym, ◌∙◌, ap, subst, true≢false, zero-add, arith, ltb-true, eqb-true, ⊎_elim}
-use Rattle.whole.specs.Tests.{true_or_false}
-use Rattle.std.specs.Int.Signed.{lt_z}
+use Rattle.std.specs.Prelude.{ℕ, ◌+◌, ◌≤◌, ◌≡◌, refl, Bool, true, false, cond, List, ◌++◌, eqb, ℤ, length, Option, Some, None, unwrap_or}
+use Rattle.std.proofs.Common.{sym, ◌∙◌, ap, subst, zero-add, arith}
 use Rattle.whole.specs.Text.{bytes}
 use Rattle.writer.specs.Promise.{Copies, Signs, Decimal}
 use Rattle.writer.specs.Laws.{PutText, decimal_of}
@@ -14,28 +12,9 @@ use Rattle.filter.specs.declared.State.{State}
 use Rattle.filter.specs.declared.Event.{Event}
 use Rattle.nametable.specs.declared.Names.{Names}
 use Rattle.cataloguerun.specs.declared.CatalogueRun.{CatalogueRun}
-use Rattle.cataloguerun.specs.declared.CatalogueRun.TheVariants.{Reading, Ready, Unread}
+use Rattle.cataloguerun.specs.declared.CatalogueRun.TheVariants.{Reading, Ready, Refused, Unread}
 use Rattle.catalogueread.specs.Promise.{ReadState, Reached, ReadsBlock}
-use Rattle.cataloguerun.specs.Promise.{start_of, reads_on_value, GoesOn, Complains, refused_at, words_of, Reason, reason, Reasons, reasons}
-
--- ---- how it starts
-
-no_file : (z : ℤ) (missing : Bool) → lt_z z (pos 0) ≡ true → start_of z missing ≡ cond missing Ready Unread
-no_file (pos d) w h = absurd (omega (arith, ltb-true d 0 h))
-no_file (negsuc k) true h = refl
-no_file (negsuc k) false h = refl
-
-opened : (z : ℤ) (missing : Bool) → lt_z z (pos 0) ≡ false → start_of z missing ≡ Reading 0 0
-opened (pos d) w h = refl
-opened (negsuc k) w h = absurd (true≢false h)
-
--- of a descriptor that was handed on as d
-module _ {d z : ℤ} (e : d ≡ z) where
-  pub starts_without : (missing : Bool) {t : Bool} → lt_z d (pos 0) ≡ true → missing ≡ t → cond t Ready Unread ≡ start_of z missing
-  starts_without missing h w = ap (λ (b : Bool). cond b Ready Unread) (sym w) ∙ sym (no_file d missing h) ∙ ap (λ (x : ℤ). start_of x missing) e
-
-  pub starts_reading : (missing : Bool) → lt_z d (pos 0) ≡ false → Reading 0 0 ≡ start_of z missing
-  starts_reading missing h = sym (opened d missing h) ∙ ap (λ (x : ℤ). start_of x missing) e
+use Rattle.cataloguerun.specs.Promise.{GoesOn, Complains, refused_at, words_of, Reason, reason, Reasons, reasons}
 
 -- ---- what a read came to
 
@@ -46,19 +25,20 @@ reads_in {s = s} {e} q w = subst (λ (x : List ℕ). ReadsBlock x s e) q w
 pub goes : {b l l' : List ℕ} {m m' : Names} {run r s : CatalogueRun} {x y : Event} {g z : ℤ} → run ≡ r → g ≡ z → x ≡ arrived_of g → x ≡ y → GoesOn b m l r y m' l' s → GoesOn b m l run (arrived_of z) m' l' s
 goes {b} {l} {l'} {m} {m'} {r = r} {s} {z = z} q d e f w = subst (λ (v : CatalogueRun). GoesOn b m l v (arrived_of z) m' l' s) (sym q) (subst (λ (v : Event). GoesOn b m l r v m' l' s) (sym f ∙ e ∙ ap arrived_of d) w)
 
-pub stays : {b l : List ℕ} {m : Names} {run r : CatalogueRun} {e : Event} → run ≡ r → reads_on_value r ≡ false → GoesOn b m l run e m l r
-stays {b} {l} {m} {r = r} {e} q h = subst (λ (v : CatalogueRun). GoesOn b m l v e m l r) (sym q) (GoesOn.over h)
+pub stays : {b l : List ℕ} {m : Names} {e : Event} (r : CatalogueRun) → ((n h : ℕ) → ¬ (r ≡ Reading n h)) → GoesOn b m l r e m l r
+stays (Reading n h) k = absurd (k n h refl)
+stays Ready k = GoesOn.over refl
+stays (Refused f) k = GoesOn.over refl
+stays Unread k = GoesOn.over refl
 
 pub complains : {o o' : List ℕ} {run r : CatalogueRun} {s t : State} → run ≡ r → s ≡ t → Complains o r o' t → Complains o run o' s
 complains {o} {o'} {r = r} {s} q e w = subst (λ (v : CatalogueRun). Complains o v o' s) (sym q) (subst (Complains o r o') (sym e) w)
 
 -- ---- a text with room for it
 
-pub put_copied : {t o : List ℕ} {at : ℕ} {o' : List ℕ} {i : ℕ} → Copies t o at o' (Some i) → PutText o at t o' i
-put_copied (Copies.copied h) = record { is = refl; offset = refl }
-
-pub never_full : {t o : List ℕ} {at : ℕ} {o' : List ℕ} → at + length t ≤ length o → Copies t o at o' None → ⊥
-never_full h (Copies.no_room k) = omega arith
+pub text_put : {t o : List ℕ} {at : ℕ} {o' : List ℕ} (r : Option ℕ) → at + length t ≤ length o → Copies t o at o' r → PutText o at t o' (unwrap_or r at)
+text_put (Some i) h (Copies.copied k) = record { is = refl; offset = refl }
+text_put None h (Copies.no_room k) = absurd (omega arith)
 
 -- ---- a refusal in words
 
@@ -75,13 +55,6 @@ words_short n =
     (either _ _ (eqb n 23) (omega arith)
     (either _ _ (eqb n 24) (omega arith)
     (either _ _ (eqb n 1) (omega arith) (either _ _ (eqb n 2) (omega arith) (omega arith)))))))
-
-other_number : (n k : ℕ) → ¬ (n ≡ k) → eqb n k ≡ false
-other_number n k h = ⊎_elim (λ e. absurd (h (eqb-true n k e))) (λ e. e) (true_or_false (eqb n k))
-
-pub words_made_up : (n : ℕ) → ¬ (n ≡ 22) → ¬ (n ≡ 11) → ¬ (n ≡ 28) → ¬ (n ≡ 23) → ¬ (n ≡ 24) → ¬ (n ≡ 1) → ¬ (n ≡ 2) → words_of n ≡ bytes ": the state was made up (16)\n"
-unfolding words_of
-words_made_up n a b c d e f g = rw (other_number n 22 a, other_number n 11 b, other_number n 28 c, other_number n 23 d, other_number n 24 e, other_number n 1 f, other_number n 2 g) refl
 
 -- the three parts of the message, one after another
 data Ending (number place : ℕ) : List ℕ → Type 0 where

@@ -35,25 +35,20 @@ pub enum CatalogueRun {
 pub fn start(descriptor: i32, missing: bool) -> CatalogueRun
     ensures { result ≡ start_of descriptor missing }
 {
-    if descriptor < 0 {
-        if missing {
-            return CatalogueRun::Ready;
-        }
-        return CatalogueRun::Unread;
+    if 0 <= descriptor {
+        CatalogueRun::Reading(0, 0)
+    } else if missing {
+        CatalogueRun::Ready
+    } else {
+        CatalogueRun::Unread
     }
-    CatalogueRun::Reading(0, 0)
 }
 
 // Whether a block is to be read.
 pub fn reads_on(run: CatalogueRun) -> bool
     ensures { result ≡ reads_on_value run }
 {
-    match run {
-        CatalogueRun::Reading(_, _) => true,
-        CatalogueRun::Ready => false,
-        CatalogueRun::Refused(_) => false,
-        CatalogueRun::Unread => false,
-    }
+    matches!(run, CatalogueRun::Reading(..))
 }
 
 // Once a read has answered.
@@ -66,24 +61,17 @@ pub fn go_on(
 ) -> CatalogueRun
     ensures { GoesOn block.now names.old line.old run (arrived_of got) names.new line.new result }
 {
-    match run {
-        CatalogueRun::Reading(lines, held) => match filter::arrived(got, block) {
-            Event::Block(from, count) => {
-                let p = Progress {
-                    at: from,
-                    lines,
-                    held,
-                };
-                advance(block, count, names, line, p)
-            }
-            Event::InputEnds => close(names, line, lines, held),
-            Event::Unread => CatalogueRun::Unread,
-            Event::Unwritten => CatalogueRun::Reading(lines, held),
-            Event::Finished => CatalogueRun::Reading(lines, held),
-        },
-        CatalogueRun::Ready => CatalogueRun::Ready,
-        CatalogueRun::Refused(why) => CatalogueRun::Refused(why),
-        CatalogueRun::Unread => CatalogueRun::Unread,
+    let CatalogueRun::Reading(lines, held) = run else {
+        return run;
+    };
+    match filter::arrived(got, block) {
+        Event::Block(at, count) => {
+            let from = Progress { at, lines, held };
+            advance(block, count, names, line, from)
+        }
+        Event::InputEnds => close(names, line, lines, held),
+        Event::Unread => CatalogueRun::Unread,
+        Event::Unwritten | Event::Finished => run,
     }
 }
 
@@ -103,12 +91,7 @@ fn advance(
 }
 
 // The last line, where it had no newline.
-fn close(
-    names: &mut Names,
-    line: &[u8; LONGEST_READ],
-    lines: usize,
-    held: usize,
-) -> CatalogueRun
+fn close(names: &mut Names, line: &[u8; LONGEST_READ], lines: usize, held: usize) -> CatalogueRun
     ensures { Closes names.old lines line.now held names.new result }
 {
     match catalogueread::read_last(names, line, lines, held) {
@@ -119,23 +102,20 @@ fn close(
 
 // ---- What is said of it on standard error
 
-const UNREAD: [u8; 54] = *b"catalogue: the file could not be read; it is not used
-";
-
-const REFUSED: [u8; 27] = *b"catalogue: refused at line ";
-
 // The message stands in the output, where there is one, and the program ends once it is written.
 pub fn complain(run: CatalogueRun, out: &mut [u8; BLOCK_SIZE]) -> State
     ensures { Complains out.old run out.new result }
 {
     match run {
-        CatalogueRun::Reading(_, _) => filter::state_with(Phase::Ended, 0),
-        CatalogueRun::Ready => filter::state_with(Phase::Ended, 0),
+        CatalogueRun::Reading(..) | CatalogueRun::Ready => filter::state_with(Phase::Ended, 0),
         CatalogueRun::Refused(why) => {
             let used = put_reason(out, why.number, why.place);
             filter::state_with(Phase::Failing, used)
         }
-        CatalogueRun::Unread => filter::say(&UNREAD, out),
+        CatalogueRun::Unread => filter::say(
+            b"catalogue: the file could not be read; it is not used\n",
+            out,
+        ),
     }
 }
 
@@ -144,72 +124,38 @@ fn put_reason(out: &mut [u8], number: u32, place: usize) -> usize
     requires { length out.old ≡ block_size }
     ensures { Reasons number place out.old out.new result }
 {
-    let first = put_text(out, 0, &REFUSED);
+    let first = put_text(out, 0, b"catalogue: refused at line ");
     let second = put_decimal(out, first, place);
-    put_words(out, second, number)
+    put_text(out, second, words(number))
 }
 
 fn put_text(out: &mut [u8], at: usize, text: &[u8]) -> usize
     requires { at + length text.now ≤ length out.old }
     ensures { PutText out.old at text.now out.new result }
 {
-    match buffer::copy_text(out, at, text) {
-        Some(end) => end,
-        None => at,
-    }
+    buffer::copy_text(out, at, text).unwrap_or(at)
 }
 
 fn put_decimal(out: &mut [u8], at: usize, n: usize) -> usize
     requires { at + 20 ≤ length out.old }
     ensures { Text (Signs false n) 20 out.old at out.new result }
 {
-    match writer::put_at(out, at, false, n as u64) {
-        Ok(end) => end,
-        Err(_) => at,
-    }
+    writer::put_at(out, at, false, n as u64).unwrap_or(at)
 }
 
-const MALFORMED: [u8; 42] = *b": not a name, a tab and a day number (22)\n";
-
-const ABOVE: [u8; 42] = *b": the day number is above 2147483647 (11)\n";
-
-const BELOW: [u8; 43] = *b": the day number is below -2147483648 (28)\n";
-
-const TAKEN: [u8; 25] = *b": the name is taken (23)\n";
-
-const TOO_MANY: [u8; 32] = *b": there are too many lines (24)\n";
-
-const NO_SWITCH: [u8; 41] = *b": no calendar can switch on that day (1)\n";
-
-const TOO_FAR: [u8; 51] = *b": the dates around that day do not fit 32 bits (2)\n";
-
-const MADE_UP: [u8; 29] = *b": the state was made up (16)\n";
-
 // The reason in words.
-fn put_words(out: &mut [u8], at: usize, number: u32) -> usize
-    requires { at + 60 ≤ length out.old }
-    ensures { PutText out.old at (words_of number) out.new result }
+#[tactic(auto, unfolding(crate::specs::Promise::words_of, whole::specs::Text::bytes))]
+fn words(number: u32) -> &'static [u8]
+    ensures { result.now ≡ words_of number }
 {
-    if number == 22 {
-        return put_text(out, at, &MALFORMED);
+    match number {
+        22 => b": not a name, a tab and a day number (22)\n",
+        11 => b": the day number is above 2147483647 (11)\n",
+        28 => b": the day number is below -2147483648 (28)\n",
+        23 => b": the name is taken (23)\n",
+        24 => b": there are too many lines (24)\n",
+        1 => b": no calendar can switch on that day (1)\n",
+        2 => b": the dates around that day do not fit 32 bits (2)\n",
+        _ => b": the state was made up (16)\n",
     }
-    if number == 11 {
-        return put_text(out, at, &ABOVE);
-    }
-    if number == 28 {
-        return put_text(out, at, &BELOW);
-    }
-    if number == 23 {
-        return put_text(out, at, &TAKEN);
-    }
-    if number == 24 {
-        return put_text(out, at, &TOO_MANY);
-    }
-    if number == 1 {
-        return put_text(out, at, &NO_SWITCH);
-    }
-    if number == 2 {
-        return put_text(out, at, &TOO_FAR);
-    }
-    put_text(out, at, &MADE_UP)
 }

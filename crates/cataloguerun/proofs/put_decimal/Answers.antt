@@ -1,9 +1,6 @@
 -- `cataloguerun::put_decimal` meets its promise.
-use Rattle.linetext.specs.Laws.{large_done, large_never}
+use Rattle.linetext.specs.Laws.{large_put}
 use Rattle.cataloguerun.proofs.put_decimal.Goals as goal
 
-pub returns-in-Ok : goal.returns-in-Ok
-returns-in-Ok c = large_done c.ranges.n.fits (rw c.in-Ok.is at c.put_at.ensures)
-
-pub returns-in-Err : goal.returns-in-Err
-returns-in-Err c = absurd (large_never c.ranges.n.fits c.requires (rw c.in-Err.is at c.put_at.ensures))
+pub returns : goal.returns
+returns c = rw c.unwrap_or.ensures (large_put c.ranges.n.fits _ c.requires c.put_at.ensures)
