@@ -19,13 +19,11 @@ const PATH_SIZE: usize = 4096;
 // Without an argument the path is empty, and no file has that name. A path that is no text cannot be opened.
 fn open_catalogue(rt: &HostRuntime) -> io::Result<File> {
     let mut path = [0u8; PATH_SIZE];
-    match rt.arg(1, &mut path) {
-        Ok(size) => match str::from_utf8(filter::front(&path, size)) {
-            Ok(path) => File::open(rt, path),
-            Err(_) => Err(io::Error::from(ErrorKind::InvalidFilename)),
-        },
-        Err(_) => File::open(rt, ""),
-    }
+    let size = rt.arg(1, &mut path).unwrap_or(0);
+    let path = str::from_utf8(filter::front(&path, size)).map_err(|_| io::Error::from(
+        ErrorKind::InvalidFilename,
+    ))?;
+    File::open(rt, path)
 }
 
 fn read_file(
