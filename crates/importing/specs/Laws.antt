@@ -1,6 +1,6 @@
 -- What the proofs need: how a record is written, and that each one takes the text further.
 -- Assumes nothing.
-use Rattle.std.specs.Prelude.{ℕ, ◌+◌, ◌-◌, ◌≤◌, ◌<◌, ◌≡◌, refl, Bool, List, [], ◌∷◌, ◌++◌, length, take, drop, pos, Result, Ok, Err}
+use Rattle.std.specs.Prelude.{ℕ, ◌+◌, ◌-◌, ◌≤◌, ◌<◌, ◌≡◌, refl, Bool, List, [], ◌∷◌, ◌++◌, length, take, drop, pos, Result, Ok, Err, IsOk}
 use Rattle.std.proofs.Common.{sym, ◌∙◌, ap, subst, arith, length-append, length-drop, take_all}
 use Rattle.std.proofs.Math.Nat.{min-eq_left, min-eq_right}
 use Rattle.refusals.specs.Promise.{refusal}
@@ -49,6 +49,15 @@ fault_wrote (Writes.writes x (Puts.done k)) = wrote_it x k
 
 pub fault_room : {f : Refusal} {b : List ℕ} {at : ℕ} {b' : List ℕ} {g : Refusal} → at + longest_line ≤ length b → Writes (LineOut (Err f)) b at b' (Err g) → ⊥
 fault_room k (Writes.writes x (Puts.short s)) = omega (arith, x.short)
+
+-- so both have room
+pub entry_told : {N : Naming} {l : List ℕ} {n : ℕ} {b : List ℕ} {at : ℕ} {b' : List ℕ} (r : Result ℕ Refusal) → 0 < n → at + longest_line ≤ length b → Writes (LastLine N l n) b at b' r → IsOk r
+entry_told (Ok i) h k w = refl
+entry_told (Err f) h k w = absurd (entry_room h k w)
+
+pub fault_told : {f : Refusal} {b : List ℕ} {at : ℕ} {b' : List ℕ} (r : Result ℕ Refusal) → at + longest_line ≤ length b → Writes (LineOut (Err f)) b at b' r → IsOk r
+fault_told (Ok i) k w = refl
+fault_told (Err g) k w = absurd (fault_room k w)
 
 -- ---- the line of a record has room in the line buffer
 

@@ -25,10 +25,7 @@ use writer::buffer;
 pub fn later_place(place: usize, by: usize) -> usize
     ensures { result ≡ place_of place by }
 {
-    if usize::MAX - place < by {
-        return usize::MAX;
-    }
-    place + by
+    place.saturating_add(by)
 }
 
 // ---- what is written for a record, where there is room for it
@@ -44,20 +41,14 @@ fn put_entry(
     requires { (0 < size) × (used + longest_line ≤ length out.old) }
     ensures { Wrote (HeldLine (NamesIn names.now) line.now size) out.old used out.new result }
 {
-    match listing::list_last(names, line, size, out, used) {
-        Ok(next) => next,
-        Err(_) => used,
-    }
+    listing::list_last(names, line, size, out, used).unwrap()
 }
 
 fn put_fault(number: u32, place: usize, out: &mut [u8], used: usize) -> usize
     requires { used + longest_line ≤ length out.old }
     ensures { Wrote (LineOut (Err (refusal number place (pos 0)))) out.old used out.new result }
 {
-    match put_refused(out, used, refusals::refusal_at(number, place, 0)) {
-        Ok(next) => next,
-        Err(_) => used,
-    }
+    put_refused(out, used, refusals::refusal_at(number, place, 0)).unwrap()
 }
 
 // ---- record after record

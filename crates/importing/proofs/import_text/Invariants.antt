@@ -1,7 +1,6 @@
 -- `importing::import_text` meets its promise. The loop's invariant is `Reaches`; the measure is what is left of the text.
 use Prim.Native.Nat.{◌-◌}
 use lib.ListN.{length}
-use Rattle.nametable.specs.Promise.{memory}
 use Rattle.catalogue.specs.Promise.{NamesIn}
 use Rattle.importing.specs.Promise.{import_state}
 use Rattle.importing.specs.Laws.{Reaches}
