@@ -32,9 +32,7 @@ pub fn start(run: CatalogueRun) -> State
 {
     match run {
         CatalogueRun::Ready => filter::state_with(Phase::Reading, 0),
-        CatalogueRun::Refused(_) => filter::state_with(Phase::Ended, 0),
-        CatalogueRun::Unread => filter::state_with(Phase::Ended, 0),
-        CatalogueRun::Reading(_, _) => filter::state_with(Phase::Ended, 0),
+        _ => filter::state_with(Phase::Ended, 0),
     }
 }
 
@@ -84,14 +82,7 @@ fn put_held(
 {
     let short = held <= LONGEST_READ;
     if short {
-        return put_front(names, line, held, out);
+        return explaining::explain_line(names, &line[..held], out, 0);
     }
     explaining::explain_too_long(out, 0)
-}
-
-fn put_front(names: &Names, line: &[u8], held: usize, out: &mut [u8]) -> Result<usize, Refusal>
-    requires { held ≤ length line.now }
-    ensures { Writes (Paragraph (NamesIn names.now) (take held line.now)) out.old 0 out.new result }
-{
-    explaining::explain_line(names, &line[..held], out, 0)
 }
