@@ -20,9 +20,9 @@ const PATH_SIZE: usize = 4096;
 fn open_catalogue(rt: &HostRuntime) -> io::Result<File> {
     let mut path = [0u8; PATH_SIZE];
     let size = rt.arg(1, &mut path).unwrap_or(0);
-    let path = str::from_utf8(filter::front(&path, size)).map_err(|_| io::Error::from(
-        ErrorKind::InvalidFilename,
-    ))?;
+    let Ok(path) = str::from_utf8(filter::front(&path, size)) else {
+        return Err(io::Error::from(ErrorKind::InvalidFilename));
+    };
     File::open(rt, path)
 }
 

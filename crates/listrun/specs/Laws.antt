@@ -1,6 +1,7 @@
 -- From what the calls below say to the promises.
 -- Assumes nothing.
-use Rattle.std.specs.Prelude.{ℕ, ◌+◌, ◌≤◌, ◌<◌, ◌≡◌, refl, Bool, List, ◌++◌, length, take, ℤ, Ok, Err}
+use Rattle.std.specs.Prelude.{ℕ, ◌+◌, ◌≤◌, ◌<◌, ◌≡◌, refl, Bool, List, ◌++◌, length, take, ℤ, Result, Err}
+use Rattle.std.specs.Result.{result_unwrap_or}
 use Rattle.std.proofs.Common.{sym, ◌∙◌, ap, ap₂, subst, zero-add, arith, length-append}
 use Rattle.whole.specs.Text.{bytes}
 use Rattle.writer.specs.Promise.{put, Puts, Writes}
@@ -23,13 +24,15 @@ use Rattle.listrun.specs.Promise.{Begins, Refuses, Starts, state_at_value, Advan
 
 -- ---- a text that is no longer than the longest line has room in the output
 
+-- what is put where there is room for it
+puts_done : {t b b' : List ℕ} {i : ℕ} {r : Result ℕ Refusal} → i + length t ≤ length b → Puts t b i b' r → (b' ≡ put b i t) × (result_unwrap_or r 0 ≡ i + length t)
+puts_done k (Puts.done h) = (refl, refl)
+puts_done k (Puts.short h) = absurd (omega arith)
+
 module _ {P : List ℕ → Type 0} {o : List ℕ} (short : (t : List ℕ) → P t → length t ≤ longest_line) (long : length o ≡ block_size) where
   -- so it was written
-  written : {o' : List ℕ} {n : ℕ} → Writes P o 0 o' (Ok n) → (t : List ℕ) × P t × (o' ≡ put o 0 t) × (n ≡ length t)
-  written (Writes.writes {t} p (Puts.done h)) = (t, p, refl, zero-add (length t))
-
-  not_refused : {o' : List ℕ} {f : Refusal} → Writes P o 0 o' (Err f) → ⊥
-  not_refused (Writes.writes {t} p (Puts.short h)) = omega (arith, short t p)
+  written : {r : Result ℕ Refusal} {o' : List ℕ} → Writes P o 0 o' r → (t : List ℕ) × P t × (o' ≡ put o 0 t) × (result_unwrap_or r 0 ≡ length t)
+  written (Writes.writes {t} p w) = let (u, v) = puts_done (omega (arith, short t p)) w in (t, p, u, v ∙ zero-add (length t))
 
 last_short : (m : Names) (l : List ℕ) (n : ℕ) (t : List ℕ) → LastLine (NamesIn m) l n t → length t ≤ longest_line
 last_short m l n t LastLine.no_more = omega arith
@@ -40,51 +43,34 @@ unfolding header bytes
 header_short t e = omega (arith, ap length e)
 
 module _ {o o' : List ℕ} (long : length o ≡ block_size) where
-  pub begins_with : {n : ℕ} {s : State} → PutsHeader o 0 o' (Ok n) → s ≡ state_with_value Reading n → Begins o o' s
-  begins_with {n} {s} w e =
+  pub begins_with : {r : Result ℕ Refusal} {n : ℕ} {s : State} → PutsHeader o 0 o' r → n ≡ result_unwrap_or r 0 → s ≡ state_with_value Reading n → Begins o o' s
+  begins_with w d e =
       let (t, p, q, k) = written header_short long w in
-      subst (Begins o o') (sym (e ∙ ap (state_with_value Reading) (k ∙ ap length p))) (subst (λ (x : List ℕ). Begins o x (state_with_value Reading (length header))) (sym (q ∙ ap (put o 0) p)) Begins.begins)
+      subst (Begins o o') (sym (e ∙ ap (state_with_value Reading) (d ∙ k ∙ ap length p))) (subst (λ (x : List ℕ). Begins o x (state_with_value Reading (length header))) (sym (q ∙ ap (put o 0) p)) Begins.begins)
 
-  pub begins_always : {f : Refusal} → PutsHeader o 0 o' (Err f) → ⊥
-  begins_always = not_refused header_short long
-
-  module _ {m : Names} {l : List ℕ} {h : ℕ} where
-    pub closes_with : {n : ℕ} {s : State} → Writes (LastLine (NamesIn m) l h) o 0 o' (Ok n) → s ≡ state_with_value Closing n → Closes m l h o o' s
-    closes_with {n} {s} w e =
-        let (t, p, q, k) = written (last_short m l h) long w in
-        subst (Closes m l h o o') (sym (e ∙ ap (state_with_value Closing) k)) (subst (λ (x : List ℕ). Closes m l h o x (state_with_value Closing (length t))) (sym q) (Closes.closes p))
-
-    pub closes_always : {f : Refusal} → Writes (LastLine (NamesIn m) l h) o 0 o' (Err f) → ⊥
-    closes_always = not_refused (last_short m l h) long
+  pub closes_with : {m : Names} {l : List ℕ} {h : ℕ} {r : Result ℕ Refusal} {n : ℕ} {s : State} → Writes (LastLine (NamesIn m) l h) o 0 o' r → n ≡ result_unwrap_or r 0 → s ≡ state_with_value Closing n → Closes m l h o o' s
+  closes_with {m} {l} {h} w d e =
+      let (t, p, q, k) = written (last_short m l h) long w in
+      subst (Closes m l h o o') (sym (e ∙ ap (state_with_value Closing) (d ∙ k))) (subst (λ (x : List ℕ). Closes m l h o x (state_with_value Closing (length t))) (sym q) (Closes.closes p))
 
 -- ---- a catalogue that is refused
 
--- what is put, and what is not
-puts_done : {t b b' : List ℕ} {i n : ℕ} → Puts t b i b' (Ok n) → (i + length t ≤ length b) × (b' ≡ put b i t) × (n ≡ i + length t)
-puts_done (Puts.done h) = (h, refl, refl)
-
-puts_short : {t b b' : List ℕ} {i : ℕ} {f : Refusal} → Puts t b i b' (Err f) → length b < i + length t
-puts_short (Puts.short h) = h
-
-module _ {o o₁ : List ℕ} {i : ℕ} (long : length o ≡ block_size) (w : PutsHeader o 0 o₁ (Ok i)) where
+module _ {o o₁ : List ℕ} {r : Result ℕ Refusal} {i : ℕ} (long : length o ≡ block_size) (w : PutsHeader o 0 o₁ r) (at_is : i ≡ result_unwrap_or r 0) where
   header_put : (o₁ ≡ put o 0 header) × (i ≡ length header) × (length o₁ ≡ block_size) × (length header ≤ longest_line)
   header_put =
       let (t, p, q, k) = written header_short long w in
       let e : o₁ ≡ put o 0 header = q ∙ ap (put o 0) p in
       let h : length header ≤ longest_line = header_short header refl in
-      (e, k ∙ ap length p, ap length e ∙ length_put o 0 header (omega arith) ∙ long, h)
+      (e, at_is ∙ k ∙ ap length p, ap length e ∙ length_put o 0 header (omega arith) ∙ long, h)
 
-  pub refuses_with : {f : Refusal} {o₂ : List ℕ} {n : ℕ} {s : State} → Writes (LineOut (Err f)) o₁ i o₂ (Ok n) → s ≡ state_with_value Closing n → Refuses f o o₂ s
-  refuses_with {f} {o₂} {n} {s} (Writes.writes {t} p w) e =
-      let (k, u, v) = puts_done w in
+  pub refuses_with : {f : Refusal} {o₂ : List ℕ} {r₂ : Result ℕ Refusal} {n : ℕ} {s : State} → Writes (LineOut (Err f)) o₁ i o₂ r₂ → n ≡ result_unwrap_or r₂ 0 → s ≡ state_with_value Closing n → Refuses f o o₂ s
+  refuses_with {f} {o₂} {n = n} {s} (Writes.writes {t} p w) g e =
       let (a, b, c, d) = header_put in
+      let (u, v) = puts_done (omega (arith, p.short)) w in
       let q : put o₁ i t ≡ put o 0 (header ++ t) = ap₂ (λ (x : List ℕ) (j : ℕ). put x j t) a (b ∙ sym (zero-add (length header))) ∙ put_then o 0 header t (omega arith) in
       subst (λ (x : List ℕ). Refuses f o x s) (sym u)
-      (subst (Refuses f o (put o₁ i t)) (sym (e ∙ ap (state_with_value Closing) (v ∙ ap (λ (j : ℕ). j + length t) b ∙ sym (length-append header t))))
+      (subst (Refuses f o (put o₁ i t)) (sym (e ∙ ap (state_with_value Closing) (g ∙ v ∙ ap (λ (j : ℕ). j + length t) b ∙ sym (length-append header t))))
       (subst (λ (x : List ℕ). Refuses f o x (state_with_value Closing (length (header ++ t)))) (sym q) (Refuses.refuses p)))
-
-  pub refuses_always : {f g : Refusal} {o₂ : List ℕ} → Writes (LineOut (Err f)) o₁ i o₂ (Err g) → ⊥
-  refuses_always (Writes.writes p w) = let (a, b, c, d) = header_put in omega (arith, p.short, puts_short w)
 
 pub starts : {run r : CatalogueRun} {o o' : List ℕ} {s : State} → run ≡ r → Starts r o o' s → Starts run o o' s
 starts {o = o} {o'} {s} q w = subst (λ (v : CatalogueRun). Starts v o o' s) (sym q) w

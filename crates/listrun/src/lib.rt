@@ -15,11 +15,11 @@ pub use listing::LONGEST_ENTRY;
 use listing::Progress;
 use refusals::Refusal;
 
-const UNREAD: [u8; 79] =
-    *b"list: standard input could not be read to its end; the listing is not complete\n";
+const UNREAD: &[u8] =
+    b"list: standard input could not be read to its end; the listing is not complete\n";
 
-const UNWRITTEN: [u8; 72] =
-    *b"list: standard output could not be written; the listing is not complete\n";
+const UNWRITTEN: &[u8] =
+    b"list: standard output could not be written; the listing is not complete\n";
 
 // By what the catalogue came to. The header stands in the output, and the input is to be read; or the catalogue's line stands under it, and nothing is.
 // A catalogue that could not be read lists nothing.
@@ -29,30 +29,23 @@ pub fn start(run: CatalogueRun, out: &mut [u8; BLOCK_SIZE]) -> State
     match run {
         CatalogueRun::Ready => begin(out),
         CatalogueRun::Refused(why) => refuse(why, out),
-        CatalogueRun::Unread => filter::state_with(Phase::Ended, 0),
-        CatalogueRun::Reading(_, _) => filter::state_with(Phase::Ended, 0),
+        CatalogueRun::Unread | CatalogueRun::Reading(..) => filter::state_with(Phase::Ended, 0),
     }
 }
 
 fn begin(out: &mut [u8; BLOCK_SIZE]) -> State
     ensures { Begins out.old out.new result }
 {
-    match listing::put_header(out, 0) {
-        Ok(used) => filter::state_with(Phase::Reading, used),
-        Err(_) => filter::state_with(Phase::Reading, 0),
-    }
+    let used = listing::put_header(out, 0).unwrap_or(0);
+    filter::state_with(Phase::Reading, used)
 }
 
 fn refuse(why: Refusal, out: &mut [u8; BLOCK_SIZE]) -> State
     ensures { Refuses why out.old out.new result }
 {
-    match listing::put_header(out, 0) {
-        Err(_) => filter::state_with(Phase::Closing, 0),
-        Ok(at) => match listing::put_refused(out, at, why) {
-            Ok(used) => filter::state_with(Phase::Closing, used),
-            Err(_) => filter::state_with(Phase::Closing, 0),
-        },
-    }
+    let at = listing::put_header(out, 0).unwrap_or(0);
+    let used = listing::put_refused(out, at, why).unwrap_or(0);
+    filter::state_with(Phase::Closing, used)
 }
 
 // The next turn, once the output was written or not, and a read has answered.
@@ -68,12 +61,10 @@ pub fn go_on(
     ensures { GoesOn names.now block.now line.old out.old state (event_of state written got) line.new out.new result }
 {
     match filter::happened(state, written, got, block) {
-        Event::Block(from, count) => advance(
-            names, block, from, count, line, state.held, out,
-        ),
+        Event::Block(from, count) => advance(names, block, from, count, line, state.held, out),
         Event::InputEnds => close(names, line, state.held, out),
-        Event::Unread => filter::say(&UNREAD, out),
-        Event::Unwritten => filter::say(&UNWRITTEN, out),
+        Event::Unread => filter::say(UNREAD, out),
+        Event::Unwritten => filter::say(UNWRITTEN, out),
         Event::Finished => filter::state_with(Phase::Ended, 0),
     }
 }
@@ -90,15 +81,7 @@ fn advance(
 ) -> State
     ensures { Advances names.now block.now line.old out.old from count held line.new out.new result }
 {
-    let p = listing::list_block(
-        names,
-        filter::front(block, count),
-        from,
-        line,
-        held,
-        out,
-        0,
-    );
+    let p = listing::list_block(names, filter::front(block, count), from, line, held, out, 0);
     if p.at < count {
         return state_at(Phase::Midway, p, count);
     }
@@ -126,8 +109,6 @@ fn close(
 ) -> State
     ensures { Closes names.now line.now held out.old out.new result }
 {
-    match listing::list_last(names, line, held, out, 0) {
-        Ok(used) => filter::state_with(Phase::Closing, used),
-        Err(_) => filter::state_with(Phase::Closing, 0),
-    }
+    let used = listing::list_last(names, line, held, out, 0).unwrap_or(0);
+    filter::state_with(Phase::Closing, used)
 }

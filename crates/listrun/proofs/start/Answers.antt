@@ -1,4 +1,5 @@
 -- `listrun::start` meets its promise.
+use Rattle.std.proofs.Common.{⊎_elim}
 use Rattle.listrun.specs.Promise.{Starts}
 use Rattle.listrun.specs.Laws.{starts}
 use Rattle.listrun.proofs.start.Goals as goal
@@ -10,7 +11,5 @@ pub returns-in-Refused : goal.returns-in-Refused
 returns-in-Refused c = starts c.in-Refused.is (Starts.with_refused c.refuse.ensures)
 
 pub returns-in-Unread : goal.returns-in-Unread
-returns-in-Unread c = starts c.in-Unread.is (rw c.state_with.ensures Starts.with_unread)
-
-pub returns-in-Reading : goal.returns-in-Reading
-returns-in-Reading c = starts c.in-Reading.is (rw c.state_with-in-Reading.ensures Starts.with_unfinished)
+returns-in-Unread c =
+    ⊎_elim (λ e. starts e (rw c.state_with.ensures Starts.with_unread)) (λ (n, h, e). starts e (rw c.state_with.ensures Starts.with_unfinished)) c.in-Unread.is
