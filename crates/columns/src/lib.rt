@@ -48,11 +48,11 @@ pub fn line_of(answer: Result<Date, Refusal>) -> Result<LineNumbers, Refusal>
     answer.map(numbers_of)
 }
 
-const HEADER: [u8; 41] = *b"jdn\tyear\tordinal\tmonth\tday\tweekday\tstyle\n";
+const HEADER: &[u8] = b"jdn\tyear\tordinal\tmonth\tday\tweekday\tstyle\n";
 
 // The header, from `at` on.
 pub fn put_header(out: &mut [u8], at: usize) -> Result<usize, Refusal>
     ensures { PutsHeader out.old at out.new result }
 {
-    buffer::copy_text(out, at, &HEADER).ok_or(refusals::refusal_with(18, 41))
+    buffer::copy_text(out, at, HEADER).ok_or(refusals::refusal_with(18, HEADER.len() as u32))
 }
