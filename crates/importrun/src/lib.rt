@@ -39,8 +39,7 @@ fn run_with(state: State, offset: usize) -> ImportRun
 pub fn start(run: CatalogueRun, out: &mut [u8; BLOCK_SIZE]) -> ImportRun
     ensures { Starts run out.old out.new result }
 {
-    let state = listrun::start(run, out);
-    run_with(state, 0)
+    run_with(listrun::start(run, out), 0)
 }
 
 // ---- what a program asks of a run, beside what it asks of its state
@@ -49,25 +48,14 @@ pub fn start(run: CatalogueRun, out: &mut [u8; BLOCK_SIZE]) -> ImportRun
 pub fn kept(run: ImportRun) -> usize
     ensures { result ≡ kept_of run.state }
 {
-    let state = run.state;
-    let held = state.held;
-    if held < BLOCK_SIZE {
-        return held;
-    }
-    BLOCK_SIZE
+    run.state.held.min(BLOCK_SIZE)
 }
 
 // How many bytes are to be read, once it is known whether the output was written.
 pub fn room(run: ImportRun, written: bool) -> usize
     ensures { result ≡ room_left run.state written }
 {
-    let state = run.state;
-    let all = filter::room(state, written);
-    let front = kept(run);
-    if all < front {
-        return 0;
-    }
-    all - front
+    filter::room(run.state, written).saturating_sub(kept(run))
 }
 
 // ---- a turn
@@ -81,21 +69,10 @@ fn keep(block: &mut [u8], at: usize, end: usize) -> usize
         return 0;
     }
     let size = end - at;
-    let mut i: usize = 0;
-    while i < size {
+    for i in 0..size {
         block[i] = block[at + i];
-        i += 1;
     }
     size
-}
-
-fn shorter(a: usize, b: usize) -> usize
-    ensures { result ≡ min a b }
-{
-    if a < b {
-        return a;
-    }
-    b
 }
 
 // Records of the block, from an offset on, up to another.
@@ -121,15 +98,14 @@ fn advance(
         out,
         0,
     );
-    let stopped = p.stopped;
-    match stopped {
+    match p.stopped {
         Stopped::Ended => run_with(filter::state_with(Phase::Closing, p.used), offset),
         Stopped::Full => run_with(state_at(Phase::Midway, p.at, count, 0, p.used), offset),
         Stopped::Spent => {
             if ends {
                 return run_with(filter::state_with(Phase::Closing, p.used), offset);
             }
-            let held = keep(block, p.at, shorter(count, BLOCK_SIZE));
+            let held = keep(block, p.at, count.min(BLOCK_SIZE));
             run_with(
                 state_at(Phase::Reading, 0, 0, held, p.used),
                 later_place(offset, p.at),
@@ -162,8 +138,7 @@ pub fn go_on(
 ) -> ImportRun
     ensures { GoesOn names.now block.old line.old out.old run (event_of run.state written got) block.new line.new out.new result }
 {
-    let state = run.state;
-    let offset = run.offset;
+    let ImportRun { state, offset } = run;
     let front = kept(run);
     match filter::happened(state, written, got, block) {
         Event::Block(from, count) => {

@@ -12,4 +12,4 @@ pub returns-in-Full : goal.returns-in-Full
 returns-in-Full c = turn_full c.front.ensures c.import_text-p.ensures c.in-Full.is c.state_at.ensures c.run_with-in-Full.ensures
 
 pub returns-else-ends : goal.returns-else-ends
-returns-else-ends c = turn_spent c.front.ensures c.import_text-p.ensures c.in-Spent.is c.if-ends.false c.shorter.ensures c.keep-held.ensures c.state_at-in-Spent.ensures c.later_place.ensures c.run_with-in-Spent.ensures
+returns-else-ends c = turn_spent c.front.ensures c.import_text-p.ensures c.in-Spent.is c.if-ends.false c.min.ensures c.keep-held.ensures c.state_at-in-Spent.ensures c.later_place.ensures c.run_with-in-Spent.ensures

@@ -1,4 +1,4 @@
--- `importrun::keep` meets its promise. The loop's invariant is that of a copy of the bytes to the front, which lie ahead of it; the measure is how many are left.
+-- `importrun::keep` meets its promise. The loop's invariant is that of a copy of the bytes to the front, which lie ahead of it.
 use native.Mathlib.Omega.{arith}
 use Rattle.writer.proofs.PutLaws.{copying_start}
 use Rattle.importrun.specs.Laws.{keeps_none, keeping_on, keeping_done}

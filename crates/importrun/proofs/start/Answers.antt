@@ -3,4 +3,4 @@ use Rattle.importrun.specs.Promise.{Starts}
 use Rattle.importrun.proofs.start.Goals as goal
 
 pub returns : goal.returns
-returns c = rw c.run_with.ensures (Starts.starts c.start-state.ensures)
+returns c = rw c.run_with.ensures (Starts.starts c.start.ensures)
