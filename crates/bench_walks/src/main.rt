@@ -6,8 +6,8 @@
 
 use benchsum::{added, calendar_of};
 use calendar::{Calendar, Date};
-use walker::Walker;
 use refusals::Refusal;
+use walker::Walker;
 
 // ---- The walks
 

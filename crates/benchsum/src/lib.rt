@@ -3,8 +3,7 @@
 
 #![tactic(auto)]
 
-use calendar::{Calendar, Date, Style};
-use calendar::Refusal;
+use calendar::{Calendar, Date, Refusal, Style};
 
 pub fn plus(a: u64, b: u64) -> u64 {
     a.wrapping_add(b)

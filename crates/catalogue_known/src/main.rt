@@ -160,12 +160,7 @@ fn answer_all(rt: &HostRuntime, input: &[u8]) {
             names = Names::new();
         }
         let piece = pieces::piece_at(input, at + 1);
-        answer_piece(
-            rt,
-            kind,
-            &input[piece.from..piece.to],
-            &mut names,
-        );
+        answer_piece(rt, kind, &input[piece.from..piece.to], &mut names);
         at = piece.next;
     }
 }

@@ -238,14 +238,7 @@ fn answer_texts(
     let mut at: usize = 0;
     while at < input.len() {
         let piece = pieces::piece_at(input, at);
-        answer_text(
-            rt,
-            names,
-            &input[piece.from..piece.to],
-            line,
-            out,
-            other,
-        );
+        answer_text(rt, names, &input[piece.from..piece.to], line, out, other);
         at = piece.next;
     }
 }
@@ -258,12 +251,5 @@ fn main(rt: HostRuntime) {
     let names = Names::new();
     let size = streams::read_full(&mut rt.stdin(), &mut input);
     answer_strings(&rt, &names, &mut line, &mut out);
-    answer_texts(
-        &rt,
-        &names,
-        &input[..size],
-        &mut line,
-        &mut out,
-        &mut other,
-    );
+    answer_texts(&rt, &names, &input[..size], &mut line, &mut out, &mut other);
 }

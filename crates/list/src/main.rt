@@ -33,9 +33,7 @@ fn main(rt: HostRuntime) {
     let mut block = [0u8; BLOCK_SIZE];
     let mut line = [0u8; LONGEST_ENTRY];
     let mut out = [0u8; BLOCK_SIZE];
-    let catalogue = cataloguefile::read(
-        &rt, &mut names, &mut block, &mut line, &mut out,
-    );
+    let catalogue = cataloguefile::read(&rt, &mut names, &mut block, &mut line, &mut out);
     let mut state = listrun::start(catalogue, &mut out);
     // The number of turns only bounds the loop: no input is so long.
     for _ in 0..u64::MAX {

@@ -20,15 +20,7 @@ fn list_cut(
     requires { cut ≤ length input.now }
 {
     let first = listing::list_block(names, &input[..cut], 0, line, 0, out, 0);
-    let second = listing::list_block(
-        names,
-        &input[cut..],
-        0,
-        line,
-        first.held,
-        out,
-        first.used,
-    );
+    let second = listing::list_block(names, &input[cut..], 0, line, first.held, out, first.used);
     match listing::list_last(names, line, second.held, out, second.used) {
         Ok(size) => size,
         Err(_) => 0,
@@ -105,12 +97,5 @@ fn main(rt: HostRuntime) {
     let mut line = [0u8; LONGEST_ENTRY];
     let names = Names::new();
     let size = streams::read_full(&mut rt.stdin(), &mut input);
-    check_all(
-        &rt,
-        &names,
-        &input[..size],
-        &mut line,
-        &mut out,
-        &mut other,
-    );
+    check_all(&rt, &names, &input[..size], &mut line, &mut out, &mut other);
 }

@@ -5,7 +5,6 @@
 
 ghost use Rattle.std.specs.Prelude.{◌+◌, ◌<◌, ◌≤◌, length};
 
-
 // The bytes of a piece, and where the next one begins.
 #[derive(Clone, Copy)]
 pub struct Piece {
