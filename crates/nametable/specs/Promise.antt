@@ -1,6 +1,6 @@
 -- What lent memory stands for: a name has the number that is found along its chain of links. Every content of the memory has a meaning; of which
 -- content it holds a list of names with their numbers is said in `Holds`. A byte is any number below 256.
-use Rattle.std.specs.Prelude.{◌≡◌, ℕ, ◌+◌, ◌-◌, ◌*◌, ◌^◌, ◌<◌, ◌≤◌, Bool, true, false, List, length, ℤ, slice_index, slice_index_or, slice_set, Option, Some, None}
+use Rattle.std.specs.Prelude.{◌≡◌, ℕ, ◌+◌, ◌-◌, ◌*◌, ◌^◌, ◌<◌, ◌≤◌, Bool, true, false, List, length, replicate, ℤ, slice_index, slice_index_or, slice_set, Option, Some, None}
 use Rattle.whole.specs.Promise.{unbias}
 use Rattle.writer.specs.Promise.{put}
 use Rattle.nametable.specs.Limits.{most_lines, most_name, slot, heads}
@@ -9,6 +9,10 @@ use Rattle.nametable.specs.declared.Names.{Names}
 
 abbrev pub memory : List ℕ → List ℕ → Names
 memory s l = record { slots = s; links = l }
+
+-- cleared memory: zeros alone
+abbrev pub cleared : Names
+cleared = memory (replicate (most_lines * slot) 0) (replicate (heads + 2 * most_lines) 0)
 
 -- ---- slots and links
 

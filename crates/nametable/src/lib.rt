@@ -8,7 +8,7 @@ ghost use Rattle.std.specs.Prelude.{◌≡◌, [], ◌+◌, ◌*◌, ◌<◌, �
 ghost use Rattle.whole.specs.Whether.{Whether};
 ghost use Rattle.nametable.specs.Limits.{most_lines, most_name, heads};
 ghost use Rattle.nametable.specs.Holds.{Holds};
-ghost use Rattle.nametable.specs.Promise.{Alike, Stands, Walk, Finds, Enters, entered, linked};
+ghost use Rattle.nametable.specs.Promise.{cleared, Alike, Stands, Walk, Finds, Enters, entered, linked};
 ghost use Rattle.nametable.specs.Hash.{FourIs, word_of, mix_of, few_of, many_of, chain_of_value, bucket_of_value};
 
 // The two limits of a catalogue: its lines, and the bytes of a name.
@@ -189,7 +189,8 @@ fn link(links: &mut [u32; LINK_COUNT], k: usize, chain: usize, number: u32)
 impl Names {
     // Cleared memory, which holds no names.
     pub fn new() -> Names
-        ensures { Holds result [] }
+        ensures cleared { result ≡ cleared }
+        ensures empty { Holds result [] }
     {
         Names {
             slots: [0; NAME_BYTES],

@@ -4,5 +4,8 @@ use Rattle.std.proofs.lemmas.List.{get_or-replicate}
 use Rattle.nametable.specs.Theorems.{cleared_holds}
 use Rattle.nametable.proofs.Names.new.Goals as goal
 
-pub returns : goal.returns
-returns c = cleared_holds _ (record { names = refl; links = refl }) (λ b h. get_or-replicate 1152 b 0 0 (omega (arith, h)))
+pub returns-clause-cleared : goal.returns-clause-cleared
+returns-clause-cleared c = refl
+
+pub returns-clause-empty : goal.returns-clause-empty
+returns-clause-empty c = cleared_holds _ (record { names = refl; links = refl }) (λ b h. get_or-replicate 1152 b 0 0 (omega (arith, h)))
