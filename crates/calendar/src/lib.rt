@@ -52,10 +52,10 @@ pub struct Date {
     pub jdn: i32,
 }
 
-// ---- Answers: each is what was asked for, or the refusal
-
 // ---- Where a calendar switches
 
+// The biased day below which a calendar is Julian, and from which on it is Gregorian. The Julian one switches after every day that is looked at, the
+// Gregorian one before.
 pub fn switch_of(calendar: Calendar) -> Result<u64, Refusal>
     ensures { SwitchIs calendar result }
 {

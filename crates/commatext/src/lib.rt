@@ -85,21 +85,12 @@ fn stands(b: u8, quoted: bool) -> bool
     false
 }
 
-fn shorter(a: usize, b: usize) -> usize
-    ensures { result ≡ min a b }
-{
-    if a < b {
-        return a;
-    }
-    b
-}
-
 // The offset after the bytes that go on in the field, from an offset on; no record goes on past its longest length.
 fn run_end(s: &[u8], from: usize, quoted: bool) -> usize
     requires { from ≤ length s.now }
     ensures { Run quoted s.now from result }
 {
-    let limit = shorter(s.len(), LONGEST_RECORD);
+    let limit = s.len().min(LONGEST_RECORD);
     let mut i = from;
     while i < limit {
         if stands(s[i], quoted) {

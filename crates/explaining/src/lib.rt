@@ -82,7 +82,7 @@ fn put_paragraph(names: &Names, line: &[u8], apart: &mut [u8; LONGEST_PARAGRAPH]
     }
 }
 
-// Each part of the line is lent in a function of its own, so that no function has both.
+// The calendar of the name, which ends at an offset.
 fn named_before(names: &Names, line: &[u8], end: usize) -> Result<Calendar, Refusal>
     requires { end ≤ length line.now }
     ensures { NamesIn names.now (take end line.now) result }

@@ -37,10 +37,9 @@ fn piece_from(from: usize, size: usize, end: usize) -> Piece
 
 // The piece whose size stands at a place of the input; nothing at its end where no number and newline stand there.
 pub fn piece_at(input: &[u8], at: usize) -> Piece
-    requires { at ≤ length input.now }
     ensures order { result.from ≤ result.to }
     ensures within { result.to ≤ length input.now }
-    ensures onward { at ≤ result.next }
+    ensures onward { at ≤ length input.now → at ≤ result.next }
     ensures further { at < length input.now → at < result.next }
 {
     if let Ok((size, after)) = numbertext::number_at(input, at) {

@@ -7,10 +7,10 @@ pub loop-i-init : goal.loop-i-init
 loop-i-init c = along_start _ c.requires
 
 pub loop-i-preserved : goal.loop-i-preserved
-loop-i-preserved c = along_on c.loop-i.invariant (rw c.shorter-limit.ensures at c.loop-i-test.true) (tells_yes c.stands.ensures c.if-stands.true)
+loop-i-preserved c = along_on c.loop-i.invariant (rw c.min-limit.ensures at c.loop-i-test.true) (tells_yes c.stands.ensures c.if-stands.true)
 
 pub returns-else-stands : goal.returns-else-stands
-returns-else-stands c = record { along = c.loop-i.invariant; stopped = stopped_byte _ (omega (arith, c.shorter-limit.ensures)) (tells_no c.stands.ensures c.if-stands.false) }
+returns-else-stands c = record { along = c.loop-i.invariant; stopped = stopped_byte _ (omega (arith, c.min-limit.ensures)) (tells_no c.stands.ensures c.if-stands.false) }
 
 pub returns : goal.returns
-returns c = record { along = c.loop-i.invariant; stopped = stopped_end _ (rw c.shorter-limit.ensures at c.loop-i-test.false) }
+returns c = record { along = c.loop-i.invariant; stopped = stopped_end _ (rw c.min-limit.ensures at c.loop-i-test.false) }
