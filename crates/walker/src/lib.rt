@@ -33,11 +33,11 @@ pub struct Moved {
 fn made(kind: Kind, date: Date) -> Result<Walker, Refusal>
     ensures { Makes kind date result }
 {
-    if date.is_genuine() {
-        let ended = ended_when_made(kind, date.jdn);
-        return Ok(Walker { kind, date, ended });
+    if !date.is_genuine() {
+        return Err(refusal_of(16, 0));
     }
-    Err(refusal_of(16, 0))
+    let ended = ended_when_made(kind, date.jdn);
+    Ok(Walker { kind, date, ended })
 }
 
 // The dates later than this one.
@@ -142,14 +142,14 @@ fn any_step(walker: Walker) -> Moved
     ensures { Steps walker result }
 {
     let Walker { kind, date, ended } = walker;
-    if !date.is_genuine() {
-        return refused(16, walker);
+    if date.is_genuine() {
+        return match ways::next_step(kind, date.jdn, ended) {
+            Err(NoStep::MadeUp) => refused(16, walker),
+            Err(NoStep::Ended) => refused(15, walker),
+            Ok(step) => gave(kind, date, step),
+        };
     }
-    match ways::next_step(kind, date.jdn, ended) {
-        Err(NoStep::MadeUp) => refused(16, walker),
-        Err(NoStep::Ended) => refused(15, walker),
-        Ok(step) => gave(kind, date, step),
-    }
+    refused(16, walker)
 }
 
 // The walker is lent, and moves one day.

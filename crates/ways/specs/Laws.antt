@@ -87,22 +87,17 @@ last_gives Earlier n h f x = absurd (not_both h refl)
 last_gives AndLater n h f x = goes f {e = true} x
 last_gives AndEarlier n h f x = goes f {e = true} x
 
--- a step of a walker that a day lies ahead of: the day held is given, or the day ahead
-abbrev pub Step : Kind → ℤ → ℤ → ℤ → Bool → Type 0
-Step k n p q e = NextStep k n false (Ok (record { given = p; held = q; ended = e }))
+pub way_gives : (k : Kind) (n : ℤ) {p q : ℤ} → gives_held_value k ≡ true → Is32Bit n → Is32Bit (toward k n) → p ≡ n → q ≡ toward k n → NextStep k n false (Ok (record { given = p; held = q; ended = false }))
+way_gives Later n h f x u v = absurd (not_both refl h)
+way_gives Earlier n h f x u v = absurd (not_both refl h)
+way_gives AndLater n h f x u v = rw (u, v) (goes f {e = false} x)
+way_gives AndEarlier n h f x u v = rw (u, v) (goes f {e = false} x)
 
-pub way_gives : (k : Kind) (n : ℤ) {e : Bool} → gives_held_value k ≡ true → Is32Bit n → Is32Bit (toward k n) → EndedAt (toward k n) e → Step k n n (toward k n) e
-way_gives Later n h f x t = absurd (not_both refl h)
-way_gives Earlier n h f x t = absurd (not_both refl h)
-way_gives AndLater n {e = true} h f x t = absurd (t x)
-way_gives AndLater n {e = false} h f x t = goes f {e = false} t
-way_gives AndEarlier n {e = true} h f x t = absurd (t x)
-way_gives AndEarlier n {e = false} h f x t = goes f {e = false} t
-
-pub way_goes : (k : Kind) (n : ℤ) {e : Bool} → gives_held_value k ≡ false → Is32Bit (toward k n) → EndedAt (toward k (toward k n)) e → Step k n (toward k n) (toward k n) e
-way_goes Later n {e = true} h x t = goes x {e = true} t
-way_goes Later n {e = false} h x t = goes x {e = false} t
-way_goes Earlier n {e = true} h x t = goes x {e = true} t
-way_goes Earlier n {e = false} h x t = goes x {e = false} t
-way_goes AndLater n h x t = absurd (not_both h refl)
-way_goes AndEarlier n h x t = absurd (not_both h refl)
+pub way_goes : (k : Kind) (n : ℤ) {p q : ℤ} {e : Bool} → gives_held_value k ≡ false → Is32Bit (toward k n) → EndedAt (toward k (toward k n)) e → p ≡ toward k n → q ≡ toward k n
+    → NextStep k n false (Ok (record { given = p; held = q; ended = e }))
+way_goes Later n {e = true} h f x u v = rw (u, v) (goes f {e = true} x)
+way_goes Later n {e = false} h f x u v = rw (u, v) (goes f {e = false} x)
+way_goes Earlier n {e = true} h f x u v = rw (u, v) (goes f {e = true} x)
+way_goes Earlier n {e = false} h f x u v = rw (u, v) (goes f {e = false} x)
+way_goes AndLater n h f x u v = absurd (not_both h refl)
+way_goes AndEarlier n h f x u v = absurd (not_both h refl)

@@ -139,11 +139,17 @@ fn on_the_way(kind: Kind, jdn: i32, ended: bool) -> Result<Given, NoStep>
         return Err(NoStep::MadeUp);
     }
     let next = ahead(kind, jdn);
-    let given = if gives_held(kind) { jdn } else { next };
+    if gives_held(kind) {
+        return Ok(Given {
+            given: jdn,
+            held: next,
+            ended: false,
+        });
+    }
     Ok(Given {
-        given,
+        given: next,
         held: next,
-        ended: is_last(kind, given),
+        ended: is_last(kind, next),
     })
 }
 

@@ -6,8 +6,8 @@ use Rattle.walker.specs.Promise.{made}
 use mir.Syntax.{w32}
 use Rattle.walker.proofs.made.Goals as goal
 
-pub returns-then-is_genuine : goal.returns-then-is_genuine
-returns-then-is_genuine c = passes (rw c.if-is_genuine.true at c.is_genuine.ensures) (made (rw (to_z-of_z {w = w32} {z = c.args.date.jdn} (search rules)) at c.ended_when_made-ended.ensures))
+pub returns-then-not-is_genuine : goal.returns-then-not-is_genuine
+returns-then-not-is_genuine c = rw c.refusal_of.ensures (refuses c.if-not-is_genuine.ensures)
 
 pub returns : goal.returns
-returns c = rw c.refusal_of.ensures (refuses (rw c.if-is_genuine.false at c.is_genuine.ensures))
+returns c = passes c.if-not-is_genuine.ensures (made (rw (to_z-of_z {w = w32} {z = c.args.date.jdn} (search rules)) at c.ended_when_made-ended.ensures))
