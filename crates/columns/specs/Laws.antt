@@ -11,10 +11,6 @@ use Rattle.linetext.specs.declared.LineNumbers.{LineNumbers}
 use Rattle.columns.specs.Columns.{header, style_letters_value, numbers_of_value}
 use Rattle.columns.specs.Promise.{PutsHeader}
 
-pub numbers_are : (d : Date) {j y : ℤ} {w v : ℕ} → j ≡ d.jdn → y ≡ d.year → w ≡ weekday d.jdn → v ≡ style_letters_value d.style
-    → ◌≡◌ {A = LineNumbers} (record { jdn = j; year = y; ordinal = d.ordinal; month = d.month; day = d.day; weekday = w; style = v }) (numbers_of_value d)
-numbers_are d e f g h = cc
-
 pub header_put : {t b : List ℕ} {at : ℕ} {b' : List ℕ} {f : Refusal} → t ≡ header → length t ≡ 41 → (o : Option ℕ) → Copies t b at b' o → f ≡ textRefusal 18 0 (pos 41) → PutsHeader b at b' (ok_or o f)
 header_put e k (Some i) (copied h) g = Writes.writes e (Puts.done h)
 header_put {t} e k None (no_room h) g = left_alone t e (sym k) h g

@@ -48,10 +48,6 @@ pub stands_not : (b : ℕ) (q : Bool) → q ≡ true → (QuotedByte b → ⊥) 
 stands_not b true e f = f
 stands_not b false e f = absurd (true≢false (sym e))
 
-pub plain_not : (b : ℕ) (q : Bool) → q ≡ false → (TextData b → ⊥) → Stands q b → ⊥
-plain_not b true e f = absurd (true≢false e)
-plain_not b false e f = f
-
 pub stands_text : (b : ℕ) (q : Bool) → TextData b → Stands q b
 stands_text b true t = QuotedByte.text t
 stands_text b false t = t
@@ -207,10 +203,6 @@ parted_snoc {m = m} {f} (Parted.some {l} {f = g} {m = n} {fs} p r) q =
     long : suc (length (fs ++ (f ∷ []))) ≡ suc (length fs) + 1
     long = omega (arith, length-append fs (f ∷ []))
 
-pub first_stays : (k c e : ℕ) → (k ≡ 0 → ⊥) → c ≡ first_comma_value k c e
-first_stays zero c e h = absurd (h refl)
-first_stays (suc k) c e h = refl
-
 pub before_end : {a b : ℕ} → a ≤ b → (a ≡ b → ⊥) → a < b
 before_end {a} {b} h f = ⊎_elim (λ k. k) (λ k. absurd (f (omega arith))) (lt_or_ge a b)
 
@@ -254,10 +246,6 @@ here {s} {at} {end} {k} {c} (OutsideAt.fresh {l} w p e) (FieldEnd.text r) = go r
     go : (m : List ℕ) → r.along.bytes ≡ m → AllStand false m → Here s at end k c false at
     go [] d all = Here.fresh within p (run_taken r.along ∙ ap₂ (λ (x y : List ℕ). x ++ y) e d ∙ append-nil l) (r.along.offset ∙ ap (λ (x : List ℕ). at + length x) d ∙ add-zero at) r.stopped
     go (b ∷ m) d all = Here.text within p (plain_of all) (omega arith) (run_taken r.along ∙ ap₂ (λ (x y : List ℕ). x ++ y) e d) (omega (arith, r.along.offset, ap length d)) r.stopped
-
-pub end_within : {s : List ℕ} {at end : ℕ} {q : Bool} {o k c : ℕ} → OutsideAt s at q o k c → FieldEnd s at q end → end ≤ length s
-end_within (OutsideAt.closed w p m e d) FieldEnd.closed = w.inside
-end_within (OutsideAt.fresh w p e) (FieldEnd.text r) = r.along.within
 
 pub at_within : {s : List ℕ} {at : ℕ} {q : Bool} {o k c : ℕ} → OutsideAt s at q o k c → at ≤ length s
 at_within (OutsideAt.closed w p m e d) = w.inside
@@ -392,9 +380,6 @@ not_in_text {ends} {end = end} (Here.text w p m n e d x) h i (NextIs.other j l f
 not_in_text (Here.closed w p q e d x) h i y = absurd (true≢false h)
 
 -- ---- inside quotes
-
-pub within_of : {s : List ℕ} {at o k c : ℕ} → InsideAt s at o k c → Within s at
-within_of (InsideAt.inside w p q e d) = w
 
 pub inside_run : {s : List ℕ} {at end o k c : ℕ} → InsideAt s at o k c → Along true s at end → InsideAt s end o k c
 inside_run (InsideAt.inside {l} {m} w p q e d) a =

@@ -129,20 +129,6 @@ unquoting_done {l} {b₀} {at} {b} {i} {n} u h =
 
 -- ---- a field, quoted or not
 
-pub copied_plain : {l b : List ℕ} {at : ℕ} {b' : List ℕ} {i : ℕ} → Copies l b at b' (Some i) → PutText b at l b' i
-copied_plain (Copies.copied h) = record { is = refl; offset = refl }
-
-pub copied_room : {l b : List ℕ} {at : ℕ} {b' : List ℕ} → at + length l ≤ length b → Copies l b at b' None → ⊥
-copied_room h (Copies.no_room k) = omega arith
-
-pub puts_quoted : {l b : List ℕ} {at : ℕ} {b' : List ℕ} {r : ℕ} → get_or l 0 0 ≡ quote → PutsQuoted l b at b' r → PutsField Field l b at b' r
-puts_quoted {l} {b} {at} {b'} {r} e p = record { puts = λ f q. go refl q; long = p.long; most = p.most }
-  where
-    go : {m f : List ℕ} → l ≡ m → Field m f → PutText b at f b' r
-    go d (Field.escaped {l = m} {f} q) = p.puts m f d q
-    go d (Field.non_escaped NonEscaped.none) = absurd (omega (arith, ap (λ (x : List ℕ). get_or x 0 0) d))
-    go d (Field.non_escaped (NonEscaped.more t q)) = absurd (no_quote (omega (arith, ap (λ (x : List ℕ). get_or x 0 0) d)) (omega (arith, ap (λ (x : List ℕ). get_or x 0 0) d)) t)
-
 pub puts_none : {l b : List ℕ} {at : ℕ} → length l ≡ 0 → PutsField Field l b at b at
 puts_none {l} {b} {at} e = record { puts = λ f q. go refl q; long = refl; most = omega arith }
   where
@@ -150,13 +136,6 @@ puts_none {l} {b} {at} e = record { puts = λ f q. go refl q; long = refl; most 
     go d (Field.escaped q) = absurd (omega (arith, ap length d))
     go d (Field.non_escaped NonEscaped.none) = record { is = sym (put_none b at); offset = omega arith }
     go d (Field.non_escaped (NonEscaped.more t q)) = absurd (omega (arith, ap length d))
-
-pub puts_plain : {l b : List ℕ} {at : ℕ} {b' : List ℕ} {r : ℕ} → at + length l ≤ length b → (get_or l 0 0 ≡ quote → ⊥) → PutText b at l b' r → PutsField Field l b at b' r
-puts_plain {l} {b} {at} {b'} {r} h n p = record { puts = λ f q. go refl q; long = ap length p.is ∙ length_put b at l h; most = omega (arith, p.offset) }
-  where
-    go : {m f : List ℕ} → l ≡ m → Field m f → PutText b at f b' r
-    go d (Field.escaped q) = absurd (n (ap (λ (x : List ℕ). get_or x 0 0) d))
-    go d (Field.non_escaped q) = subst (λ (x : List ℕ). PutText b at x b' r) d p
 
 -- ---- what was found, as a line
 
@@ -222,9 +201,6 @@ module _ (s : List ℕ) (c e : ℕ) (h : c < e) (i : e ≤ length s) where
       back = sym (take_at m (drop e s) (e - (c + 1)) (omega (arith, long)))
           ∙ ap (take (e - (c + 1))) (sym (drop_at (l ++ (comma ∷ [])) (m ++ drop e s) (c + 1) (omega (arith, length-append l (comma ∷ [])))) ∙ ap (drop (c + 1)) (sym whole))
 
-  pub back_room : {F : List ℕ → List ℕ → Type 0} {b b₁ : List ℕ} {n : ℕ} → e ≤ length b → PutsField F (take c s) b 0 b₁ n → n + 1 + length (take (e - (c + 1)) (drop (c + 1) s)) ≤ length (set b₁ n tab)
-  back_room {b₁ = b₁} {n} k p = omega (arith, p.most, p.long, length-take c s, length-take (e - (c + 1)) (drop (c + 1) s), length-set b₁ n tab)
-
   pub puts_line : {F : List ℕ → List ℕ → Type 0} {b b₁ b₂ : List ℕ} {n r : ℕ} → e ≤ length b → PutsField F (take c s) b 0 b₁ n → PutsField F (take (e - (c + 1)) (drop (c + 1) s)) (set b₁ n tab) (n + 1) b₂ r → PutsLine F s c e b b₂ r
   puts_line {F} {b} {b₁} {b₂} {n} {r} k p q l m f g x y d z =
       let (u, v) = parts d z in
@@ -238,20 +214,6 @@ module _ (s : List ℕ) (c e : ℕ) (h : c < e) (i : e ≤ length s) where
       subst (λ (i : List ℕ). PutText b 0 i b₂ r) (append_assoc f (tab ∷ []) g) z₂
 
 -- ---- a usual field
-
-pub usual_short : {l b : List ℕ} {at : ℕ} {b' : List ℕ} {r : ℕ} → at + length l ≤ length b → length l < 2 → PutText b at l b' r → PutsField UsualField l b at b' r
-usual_short {l} {b} {at} {b'} {r} h k p = record { puts = λ f q. go refl q; long = ap length p.is ∙ length_put b at l h; most = omega (arith, p.offset) }
-  where
-    go : {m f : List ℕ} → l ≡ m → UsualField m f → PutText b at f b' r
-    go d (UsualField.plain q) = subst (λ (x : List ℕ). PutText b at x b' r) d p
-    go d (UsualField.quoted {l = m} q) = absurd (omega (arith, ap length d, length-append m (quote ∷ [])))
-
-pub usual_plain : {l b : List ℕ} {at : ℕ} {b' : List ℕ} {r : ℕ} → at + length l ≤ length b → (get_or l 0 0 ≡ quote → ⊥) → PutText b at l b' r → PutsField UsualField l b at b' r
-usual_plain {l} {b} {at} {b'} {r} h n p = record { puts = λ f q. go refl q; long = ap length p.is ∙ length_put b at l h; most = omega (arith, p.offset) }
-  where
-    go : {m f : List ℕ} → l ≡ m → UsualField m f → PutText b at f b' r
-    go d (UsualField.plain q) = subst (λ (x : List ℕ). PutText b at x b' r) d p
-    go d (UsualField.quoted q) = absurd (n (ap (λ (x : List ℕ). get_or x 0 0) d))
 
 -- without its first byte and its last
 pub usual_quoted : {l b : List ℕ} {at : ℕ} {b' : List ℕ} {r : ℕ} → at + length l ≤ length b → 2 ≤ length l → get_or l 0 0 ≡ quote → PutText b at (take (length l - 1 - 1) (drop 1 l)) b' r → PutsField UsualField l b at b' r

@@ -137,9 +137,6 @@ written_numerals e (Written.with_dash {p = q} w) (bare o) = absurd (o q (sym e))
 pub not_written : {u p : List ℕ} → DigitsFrom u p → ¬ Numerals p → ¬ IsWritten u
 not_written d o (z, w) = o (written_numerals refl w d)
 
-pub numerals_some : (s : List ℕ) (from : ℕ) → length s ≤ from → ¬ Numerals (drop from s)
-numerals_some s from h n = omega (arith, n.some, length-drop from s)
-
 -- a `-` that stands at a place, or does not
 pub dash_here : (s : List ℕ) (at : ℕ) → at < length s → get_or s at 0 ≡ dash → DigitsFrom (drop at s) (drop (at + 1) s)
 dash_here s at h e =

@@ -24,14 +24,6 @@ use Rattle.importing.specs.declared.Stopped.{Stopped}
 use Rattle.importing.specs.Promise.{most_place, place_of, ImportState, import_state, TakesRecord, Imports}
 use Rattle.calendar.specs.declared.Calendar.{Calendar}
 
--- ---- offsets in the file
-
-pub place_within : (a b : ℕ) → a + b ≤ most_place → a + b ≡ place_of a b
-place_within a b h = sym (min-eq_left h)
-
-pub place_past : (a b : ℕ) → most_place ≤ a + b → most_place ≡ place_of a b
-place_past a b h = sym (min-eq_right h)
-
 -- ---- what is written
 
 held_line : {N : Naming} {l : List ℕ} {n : ℕ} {t : List ℕ} → LastLine N l n t → 0 < n → HeldLine N l n t

@@ -20,12 +20,6 @@ use Rattle.importing.specs.Promise.{place_of, import_state, Imports}
 use Rattle.importrun.specs.declared.ImportRun.{ImportRun}
 use Rattle.importrun.specs.Promise.{run_with_value, kept_of, room_left, Keeps, Advances, GoesOn}
 
-pub kept_all : (h : ℕ) {n : ℕ} → h < n → h ≡ min h n
-kept_all h k = sym (min-eq_left (omega arith))
-
-pub kept_most : (h : ℕ) {n : ℕ} → n ≤ h → n ≡ min h n
-kept_most h k = sym (min-eq_right k)
-
 -- what is read after them lies in the block
 pub reads_fit : (s : State) (w : Bool) → kept_of s + room_left s w ≤ block_size
 reads_fit s w = within (min s.held block_size) (room_of s.phase w) (omega arith) (room_fits s.phase w)

@@ -162,9 +162,6 @@ put_minus {neg} {n} e h s t = text_then (put_text {P = λ (v : List ℕ). v ≡ 
     both : (u v : List ℕ) → u ≡ dash ∷ [] → Signs false n v → Signs neg n (u ++ v)
     both u v p (Signs.signs {k} w) = subst (λ (x : List ℕ). Signs neg n (x ++ digits_of k n)) (sym p) (subst (λ (g : Bool). Signs g n (dash ∷ digits_of k n)) (sym e) (Signs.signs w))
 
-pub put_plus : {neg : Bool} {n : ℕ} {b : List ℕ} {at : ℕ} {b' : List ℕ} {i : ℕ} → neg ≡ false → Text (Signs false n) 20 b at b' i → Text (Signs neg n) 21 b at b' i
-put_plus {neg} {n} e t = text_as t (λ u. subst (λ (g : Bool). Signs g n u) (sym e)) (omega arith)
-
 -- ---- a column: a number and the byte after it
 
 pub data Cell (x : ℤ) (after : ℕ) : List ℕ → Type 0 where
@@ -252,9 +249,6 @@ refusal_line {f} h s t r = text_as (text_then (put_text {P = λ (v : List ℕ). 
 pub column_as : {x y : ℤ} {after : ℕ} {b : List ℕ} {at : ℕ} {b' : List ℕ} {i : ℕ} → x ≡ y → Column x after b at b' i → Column y after b at b' i
 column_as {after = after} {b} {at} {b'} {i} e = subst (λ (z : ℤ). Column z after b at b' i) e
 
-pub line_as : {l k : Result LineNumbers Refusal} {b : List ℕ} {at : ℕ} {b' : List ℕ} {i : ℕ} → l ≡ k → LinePut k b at b' i → LinePut l b at b' i
-line_as {b = b} {at} {b'} {i} e = subst (λ (m : Result LineNumbers Refusal). LinePut m b at b' i) (sym e)
-
 -- the columns of a day, whose first two are signed
 pub numbers_columns : {r : LineNumbers} {x y : ℤ} {b : List ℕ} {at : ℕ} {b₁ b₂ b₃ : List ℕ} {i₁ i₂ i₃ : ℕ} → at + longest_line ≤ length b → length b ≤ length b₁ → x ≡ r.jdn → y ≡ r.year
     → Column x tab b at b₁ i₁ → Column y tab b₁ i₁ b₂ i₂ → CellsOf (tab ∷ last_letters r.style) (pos r.ordinal ∷ pos r.month ∷ pos r.day ∷ pos r.weekday ∷ []) 91 b₂ i₂ b₃ i₃ → LinePut (Ok r) b at b₃ i₃
@@ -268,9 +262,6 @@ module _ {P : List ℕ → Type 0} {m : ℕ} {z z' : List ℕ} {n : ℕ} (t : Te
 
   pub apart_is : take n z' ≡ t.text
   apart_is = ap (take n) t.put.is ∙ take_at t.text (drop (0 + length t.text) z) n (omega (arith, t.put.offset))
-
-  pub apart_part : n ≡ length (take n z')
-  apart_part = apart_long ∙ sym (ap length apart_is)
 
   -- it has room, and was copied; or it has not
   apart_done : {b : List ℕ} {at : ℕ} {b' : List ℕ} {i : ℕ} → Copies (take n z') b at b' (Some i) → Writes P b at b' (Ok i)

@@ -87,9 +87,6 @@ module _ (leap : Bool) (o t m : ℕ) (f : 1 ≤ o) (e : t ≡ to_thirty_value le
   pub day_some : (367 * m - 362) / 12 < o + t
   day_some = omega arith
 
-  pub day_few : o + t - (367 * m - 362) / 12 ≤ 31
-  day_few = omega arith
-
   -- past February exactly where the place is
   same_side : to_thirty_value leap o ≡ cond (ltb 2 m) (cond leap 1 2) 0
   same_side = ⊎_elim

@@ -9,18 +9,11 @@ use Rattle.nametable.specs.Hash.{bucket_of_value}
 use Rattle.nametable.specs.Promise.{memory, Alike, Stands, head_of, next_of, number_of, Walk, ended, here, astray, onward, Finds, walks, lost, entered, linked, Enters, enters}
 use Rattle.nametable.specs.declared.Names.{Names}
 
-pub stands_by : (names : List ℕ) (k : ℕ) (s : List ℕ) (b : Bool) → slice_index names (k * slot + most_name) ≡ length s → Whether (Alike s names (k * slot)) b → Whether (Stands names k s) b
-stands_by names k s true e a = record { long = e; bytes = a }
-stands_by names k s false e n = λ w. n w.bytes
-
 -- ---- from link to link: what is found from here on is found from the beginning
 
 pub record Walking (m : Names) (s : List ℕ) (from at : ℕ) : Type 0 where
   pub few : at ≤ most_lines
   pub leads : (a : Option ℤ) → Walk m s at a → Walk m s from a
-
-pub walking_start : (m : Names) (s : List ℕ) (from : ℕ) → from ≤ most_lines → Walking m s from from
-walking_start m s from h = record { few = h; leads = λ a w. w }
 
 module _ {m : Names} {s : List ℕ} {from at : ℕ} (g : Walking m s from at) where
   pub walking_ended : at ≤ 0 → Walk m s from None
@@ -53,13 +46,6 @@ module _ (m : Names) (s : List ℕ) {b from : ℕ} (h : length s ≤ most_name) 
   finds_walk {a} l w = walks h (subst (λ (x : ℕ). x ≤ most_lines) head_is l) (subst (λ (x : ℕ). Walk m s x a) head_is w)
 
 -- ---- a name put into its slot
-
-copied_in : {t b : List ℕ} {at : ℕ} {b' : List ℕ} {r : Option ℕ} → at + length t ≤ length b → Copies t b at b' r → b' ≡ put b at t
-copied_in h (copied k) = refl
-copied_in h (no_room k) = absurd (omega arith)
-
-pub entered_so : {names : List ℕ} {k : ℕ} {s b : List ℕ} {r : Option ℕ} → k < most_lines → length s ≤ most_name → length names ≡ most_lines * slot → Copies s names (k * slot) b r → slice_set b (k * slot + most_name) (length s) ≡ entered names k s
-entered_so {names} {k} {s} h l e c = ap (λ (x : List ℕ). set x (k * slot + most_name) (length s)) (copied_in (omega arith) c)
 
 pub enters_so : {names links : List ℕ} {k : ℕ} {s : List ℕ} {z : ℤ} {n l : List ℕ} {b : ℕ} (d : ℕ) → k < most_lines → length s ≤ most_name → n ≡ entered names k s → l ≡ linked links k b d → b ≡ bucket_of_value s → unbias (2 ^ 31) d ≡ z → Enters (memory names links) k s z (memory n l) true
 enters_so {names} {links} {k} {s} {z} {n} {l} {b} d h g e f i u =

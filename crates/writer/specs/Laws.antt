@@ -16,17 +16,6 @@ pub record PutText (b : List ℕ) (at : ℕ) (t b' : List ℕ) (i : ℕ) : Type 
   pub is : b' ≡ put b at t
   pub offset : i ≡ at + length t
 
--- ---- the test for room
-
-pub room_test : (len at size : ℕ) → at ≤ len → leb size (len - at) ≡ leb (at + size) len
-room_test len at size h = ⊎_elim
-    (λ k. lt-leb size (len - at) (omega arith) ∙ sym (lt-leb (at + size) len k))
-    (λ k. le-leb size (len - at) (omega arith) ∙ sym (le-leb (at + size) len k))
-    (lt_or_ge len (at + size))
-
-pub no_room_test : (len at size : ℕ) → len < at → false ≡ leb (at + size) len
-no_room_test len at size h = sym (lt-leb (at + size) len (omega arith))
-
 -- ---- what a copier promises
 
 pub copied_to : {t b : List ℕ} {at : ℕ} {b' : List ℕ} {i : ℕ} → at + length t ≤ length b → PutText b at t b' i → Copies t b at b' (Some i)
@@ -239,15 +228,6 @@ pub left_alone : {IsText : List ℕ → Type 0} {b : List ℕ} {at k : ℕ} {f :
     → Writes IsText b at b (Err f)
 left_alone {b = b} {at = at} t x e h g =
     Writes.writes x (subst (λ (f : Refusal). Puts t b at b (Err f)) (sym (g ∙ ap (λ (k : ℕ). refusal 18 0 (pos k)) e)) (Puts.short h))
-
--- ---- what the parts of a date come to, one after the other
-
-pub dashed_room : (k at : ℕ) {len : ℕ} {neg : Bool} → neg ≡ true → at + whole_width neg k ≤ len → at + 1 + k ≤ len
-dashed_room k at {len} e h = omega (arith, subst (λ (t : Bool). at + whole_width t k ≤ len) e h)
-
--- the sign that was tested
-pub put_tested : (k n : ℕ) {b : List ℕ} {at : ℕ} {b' : List ℕ} {i : ℕ} {neg t : Bool} → neg ≡ t → PutText b at (whole_text t k n) b' i → PutText b at (whole_text neg k n) b' i
-put_tested k n {b} {at} {b'} {i} e s = subst (λ (t : Bool). PutText b at (whole_text t k n) b' i) (sym e) s
 
 -- ---- the text of a sign and a magnitude, whatever its width
 
