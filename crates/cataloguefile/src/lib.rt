@@ -5,8 +5,8 @@
 #![tactic(auto)]
 
 use catalogue::Names;
-use cataloguerun::CatalogueRun;
 pub use cataloguerun::LONGEST_READ;
+use cataloguerun::{CatalogueRun, Opened};
 use filter::{BLOCK_SIZE, State};
 use std::env::Env;
 use std::fs::File;
@@ -32,7 +32,7 @@ fn read_file(
     block: &mut [u8; BLOCK_SIZE],
     line: &mut [u8; LONGEST_READ],
 ) -> CatalogueRun {
-    let mut run = cataloguerun::start(0, false);
+    let mut run = cataloguerun::start(Opened::Open);
     // The number of turns only bounds the loop: no catalogue is so long.
     for _ in 0..u64::MAX {
         if !cataloguerun::reads_on(run) {
@@ -52,7 +52,8 @@ fn read_catalogue(
 ) -> CatalogueRun {
     match open_catalogue(rt) {
         Ok(file) => read_file(file, names, block, line),
-        Err(why) => cataloguerun::start(-1, why.kind() == ErrorKind::NotFound),
+        Err(why) if why.kind() == ErrorKind::NotFound => cataloguerun::start(Opened::Missing),
+        Err(_) => cataloguerun::start(Opened::Failed),
     }
 }
 

@@ -1,6 +1,6 @@
 -- What is promised of a program's catalogue: how it is read, block by block, and what is said of it on standard error.
 -- Assumes nothing.
-use Rattle.std.specs.Prelude.{ℕ, ◌≡◌, Bool, true, false, cond, List, ◌++◌, eqb, ℤ, pos, negsuc, length, take, Ok, Err}
+use Rattle.std.specs.Prelude.{ℕ, ◌≡◌, Bool, true, false, cond, List, ◌++◌, eqb, length, take, Ok, Err}
 use Rattle.whole.specs.Text.{bytes}
 use Rattle.writer.specs.Promise.{put, Decimal}
 use Rattle.refusals.specs.declared.Refusal.{Refusal}
@@ -11,16 +11,18 @@ use Rattle.filter.specs.declared.State.{State}
 use Rattle.filter.specs.Promise.{state_with_value, PutsMessage}
 use Rattle.nametable.specs.declared.Names.{Names}
 use Rattle.catalogueread.specs.Promise.{ReadState, read_state, going, stopped, ReadsBlock, ReadsLast}
+use Rattle.cataloguerun.specs.declared.Opened.{Opened}
+use Rattle.cataloguerun.specs.declared.Opened.TheVariants.{Open, Missing, Failed}
 use Rattle.cataloguerun.specs.declared.CatalogueRun.{CatalogueRun}
 use Rattle.cataloguerun.specs.declared.CatalogueRun.TheVariants.{Reading, Ready, Refused, Unread}
 
 -- ---- Reading it
 
 -- a file that is missing counts as empty; one that could not be opened is told
-abbrev pub start_of : ℤ → Bool → CatalogueRun
-start_of (pos d) missing = Reading 0 0
-start_of (negsuc k) true = Ready
-start_of (negsuc k) false = Unread
+abbrev pub start_of : Opened → CatalogueRun
+start_of Open = Reading 0 0
+start_of Missing = Ready
+start_of Failed = Unread
 
 abbrev pub reads_on_value : CatalogueRun → Bool
 reads_on_value (Reading n h) = true

@@ -1,6 +1,6 @@
 // The catalogue of a program, which is read before its input, block by block. What it comes to is told to the program's run; one that is refused, or
 // cannot be read, is told on standard error. A program around it decides nothing.
-// For programs: `start`, `reads_on`, `go_on` and `complain`. For the crates above: `CatalogueRun`.
+// For programs: `start`, `reads_on`, `go_on`, `complain` and `Opened`. For the crates above: `CatalogueRun`.
 
 #![tactic(auto)]
 
@@ -18,6 +18,16 @@ use filter::{BLOCK_SIZE, Event, Phase, State};
 use refusals::Refusal;
 use writer::buffer;
 
+// What opening the file came to.
+#[derive(Clone, Copy)]
+pub enum Opened {
+    Open,
+    // There is no such file.
+    Missing,
+    // It is there, or may be, and could not be opened.
+    Failed,
+}
+
 // How far it is read, or what it came to.
 #[derive(Clone, Copy)]
 pub enum CatalogueRun {
@@ -31,16 +41,14 @@ pub enum CatalogueRun {
 
 // ---- Reading it
 
-// By the answer to opening the file, a descriptor or a negative number, and by whether there is no such file: then it counts as empty.
-pub fn start(descriptor: i32, missing: bool) -> CatalogueRun
-    ensures { result ≡ start_of descriptor missing }
+// By what opening the file came to. One that is missing counts as empty.
+pub fn start(opened: Opened) -> CatalogueRun
+    ensures { result ≡ start_of opened }
 {
-    if 0 <= descriptor {
-        CatalogueRun::Reading(0, 0)
-    } else if missing {
-        CatalogueRun::Ready
-    } else {
-        CatalogueRun::Unread
+    match opened {
+        Opened::Open => CatalogueRun::Reading(0, 0),
+        Opened::Missing => CatalogueRun::Ready,
+        Opened::Failed => CatalogueRun::Unread,
     }
 }
 
