@@ -1,13 +1,13 @@
 -- From what the calls below say to the promises.
 -- Assumes nothing.
-use Rattle.std.specs.Prelude.{ℕ, ◌+◌, ◌≤◌, ◌≡◌, refl, Bool, true, false, cond, List, ◌++◌, eqb, ℤ, length, Option, Some, None, unwrap_or}
+use Rattle.std.specs.Prelude.{ℕ, ◌+◌, ◌≤◌, ◌≡◌, refl, Bool, true, false, cond, List, ◌++◌, eqb, length, Option, Some, None, unwrap_or}
 use Rattle.std.proofs.Common.{sym, ◌∙◌, ap, subst, zero-add, arith}
 use Rattle.whole.specs.Text.{bytes}
 use Rattle.writer.specs.Promise.{Copies, Signs, Decimal}
 use Rattle.writer.specs.Laws.{PutText, decimal_of}
 use Rattle.writer.proofs.PutLaws.{length_put}
 use Rattle.linetext.specs.Laws.{Text, put_text, text_then}
-use Rattle.filter.specs.Promise.{arrived_of, block_size}
+use Rattle.filter.specs.Promise.{block_size}
 use Rattle.filter.specs.declared.State.{State}
 use Rattle.filter.specs.declared.Event.{Event}
 use Rattle.nametable.specs.declared.Names.{Names}
@@ -21,9 +21,8 @@ use Rattle.cataloguerun.specs.Promise.{GoesOn, Complains, refused_at, words_of, 
 pub reads_in : {c d : List ℕ} {s : ReadState} {e : Reached} → c ≡ d → ReadsBlock c s e → ReadsBlock d s e
 reads_in {s = s} {e} q w = subst (λ (x : List ℕ). ReadsBlock x s e) q w
 
--- where the answer of the read was handed on as g
-pub goes : {b l l' : List ℕ} {m m' : Names} {run r s : CatalogueRun} {x y : Event} {g z : ℤ} → run ≡ r → g ≡ z → x ≡ arrived_of g → x ≡ y → GoesOn b m l r y m' l' s → GoesOn b m l run (arrived_of z) m' l' s
-goes {b} {l} {l'} {m} {m'} {r = r} {s} {z = z} q d e f w = subst (λ (v : CatalogueRun). GoesOn b m l v (arrived_of z) m' l' s) (sym q) (subst (λ (v : Event). GoesOn b m l r v m' l' s) (sym f ∙ e ∙ ap arrived_of d) w)
+pub goes : {b l l' : List ℕ} {m m' : Names} {run r s : CatalogueRun} {x y z : Event} → run ≡ r → x ≡ z → x ≡ y → GoesOn b m l r y m' l' s → GoesOn b m l run z m' l' s
+goes {b} {l} {l'} {m} {m'} {r = r} {s} {z = z} q e f w = subst (λ (v : CatalogueRun). GoesOn b m l v z m' l' s) (sym q) (subst (λ (v : Event). GoesOn b m l r v m' l' s) (sym f ∙ e) w)
 
 pub stays : {b l : List ℕ} {m : Names} {e : Event} (r : CatalogueRun) → ((n h : ℕ) → ¬ (r ≡ Reading n h)) → GoesOn b m l r e m l r
 stays (Reading n h) k = absurd (k n h refl)

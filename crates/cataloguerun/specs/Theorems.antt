@@ -1,7 +1,7 @@
 -- THE THEOREM ON A PROGRAM'S CATALOGUE. A program that reads its catalogue as the turns say, and whose reads do not fail, comes to what the file
 -- means, in whatever parts that is read (`run_reads`).
 -- Assumes nothing.
-use Rattle.std.specs.Prelude.{ℕ, ◌≤◌, min, ◌≡◌, refl, List, [], ◌∷◌, ◌++◌, length, take, pos, Result, Ok, Err}
+use Rattle.std.specs.Prelude.{ℕ, ◌≤◌, min, ◌≡◌, refl, List, [], ◌∷◌, ◌++◌, length, take, Some, Result, Ok, Err}
 use Rattle.std.proofs.Common.{◌∙◌, ap, subst, true≢false, append-nil}
 use Rattle.std.proofs.Math.Nat.{min-eq_left}
 use Rattle.refusals.specs.declared.Refusal.{Refusal}
@@ -23,10 +23,10 @@ use Rattle.cataloguerun.specs.Laws.{reads_in}
 -- the file has ended. Once a line is refused, the rest of the file is not read.
 pub data Turns : ℕ → ℕ → Names → List ℕ → List ℕ → CatalogueRun → Names → Type 0 where
   reads : {n h x n' h' : ℕ} {m m' m'' : Names} {l l' b i : List ℕ} {r : CatalogueRun} (c : List ℕ) → length (x ∷ c) ≤ block_size → take (length (x ∷ c)) b ≡ x ∷ c
-      → GoesOn b m l (Reading n h) (arrived_of (pos (length (x ∷ c)))) m' l' (Reading n' h') → Turns n' h' m' l' i r m'' → Turns n h m l ((x ∷ c) ++ i) r m''
+      → GoesOn b m l (Reading n h) (arrived_of (Some (length (x ∷ c)))) m' l' (Reading n' h') → Turns n' h' m' l' i r m'' → Turns n h m l ((x ∷ c) ++ i) r m''
   stops : {n h x : ℕ} {m m' : Names} {l l' b : List ℕ} {f : Refusal} (c i : List ℕ) → length (x ∷ c) ≤ block_size → take (length (x ∷ c)) b ≡ x ∷ c
-      → GoesOn b m l (Reading n h) (arrived_of (pos (length (x ∷ c)))) m' l' (Refused f) → Turns n h m l ((x ∷ c) ++ i) (Refused f) m'
-  ends : {n h : ℕ} {m m' : Names} {l l' b : List ℕ} {r : CatalogueRun} → GoesOn b m l (Reading n h) (arrived_of (pos 0)) m' l' r → Turns n h m l [] r m'
+      → GoesOn b m l (Reading n h) (arrived_of (Some (length (x ∷ c)))) m' l' (Refused f) → Turns n h m l ((x ∷ c) ++ i) (Refused f) m'
+  ends : {n h : ℕ} {m m' : Names} {l l' b : List ℕ} {r : CatalogueRun} → GoesOn b m l (Reading n h) (arrived_of (Some 0)) m' l' r → Turns n h m l [] r m'
 
 -- what it comes to: the memory holds the calendars of the file, or the run is refused as the file is
 pub data ComesTo (house : List ℕ) : CatalogueRun → Names → Type 0 where

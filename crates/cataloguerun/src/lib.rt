@@ -62,7 +62,7 @@ pub fn reads_on(run: CatalogueRun) -> bool
 // Once a read has answered.
 pub fn go_on(
     run: CatalogueRun,
-    got: isize,
+    got: Option<usize>,
     block: &[u8; BLOCK_SIZE],
     names: &mut Names,
     line: &mut [u8; LONGEST_READ],

@@ -41,7 +41,7 @@ pub fn go_on(
     names: &Names,
     state: State,
     written: bool,
-    got: isize,
+    got: Option<usize>,
     block: &[u8; BLOCK_SIZE],
     line: &mut [u8; LONGEST_READ],
     out: &mut [u8; BLOCK_SIZE],

@@ -1,6 +1,6 @@
 -- What a program that reads blocks does next, by its phase, and what has happened since the last call. All are tables.
 -- Assumes nothing.
-use Rattle.std.specs.Prelude.{ℕ, zero, suc, ◌≤◌, ◌<◌, min, Bool, true, false, List, length, ℤ, pos, negsuc}
+use Rattle.std.specs.Prelude.{ℕ, zero, suc, ◌≤◌, ◌<◌, min, Bool, true, false, List, length, ℤ, pos, Option, Some, None}
 use Rattle.writer.specs.Promise.{put}
 use Rattle.filter.specs.declared.Phase.{Phase}
 use Rattle.filter.specs.declared.Phase.TheVariants.{Reading, Midway, Closing, Failing, Ended}
@@ -38,13 +38,13 @@ room_of Failing w = 0
 room_of Ended w = 0
 
 -- what the answer of a read tells: it failed, the input has ended, or so many bytes came
-abbrev pub arrived_of : ℤ → Event
-arrived_of (negsuc k) = Unread
-arrived_of (pos zero) = InputEnds
-arrived_of (pos (suc k)) = Block 0 (min (suc k) block_size)
+abbrev pub arrived_of : Option ℕ → Event
+arrived_of None = Unread
+arrived_of (Some zero) = InputEnds
+arrived_of (Some (suc k)) = Block 0 (min (suc k) block_size)
 
 -- what has happened, in a phase, with a block that has n bytes and is used up to `at`, by whether the output was written and what the read answered
-abbrev pub event_in : Phase → ℕ → ℕ → Bool → ℤ → Event
+abbrev pub event_in : Phase → ℕ → ℕ → Bool → Option ℕ → Event
 event_in Reading at n true g = arrived_of g
 event_in Reading at n false g = Unwritten
 event_in Midway at n true g = Block at n
@@ -54,7 +54,7 @@ event_in Closing at n false g = Unwritten
 event_in Failing at n w g = Finished
 event_in Ended at n w g = Finished
 
-abbrev pub event_of : State → Bool → ℤ → Event
+abbrev pub event_of : State → Bool → Option ℕ → Event
 event_of s = event_in s.phase s.at s.count
 
 abbrev pub state_with_value : Phase → ℕ → State

@@ -87,7 +87,7 @@ pub fn front(s: &[u8], size: usize) -> &[u8]
 // ---- What the crates above ask
 
 // What has happened, by whether the output was written and what the read answered.
-pub fn happened(state: State, written: bool, got: isize, block: &[u8; BLOCK_SIZE]) -> Event
+pub fn happened(state: State, written: bool, got: Option<usize>, block: &[u8; BLOCK_SIZE]) -> Event
     ensures { result ≡ event_of state written got }
 {
     match state.phase {
@@ -99,14 +99,14 @@ pub fn happened(state: State, written: bool, got: isize, block: &[u8; BLOCK_SIZE
     }
 }
 
-// What a read answered: a negative number where it failed, else how many bytes of the block it gave.
-pub fn arrived(got: isize, block: &[u8; BLOCK_SIZE]) -> Event
+// What a read answered: how many bytes of the block it gave, and nothing where it failed.
+pub fn arrived(got: Option<usize>, block: &[u8; BLOCK_SIZE]) -> Event
     ensures { result ≡ arrived_of got }
 {
-    match usize::try_from(got) {
-        Err(_) => Event::Unread,
-        Ok(0) => Event::InputEnds,
-        Ok(count) => Event::Block(0, count.min(block.len())),
+    match got {
+        None => Event::Unread,
+        Some(0) => Event::InputEnds,
+        Some(count) => Event::Block(0, count.min(block.len())),
     }
 }
 

@@ -9,7 +9,7 @@ use catalogue::Names;
 use filter::BLOCK_SIZE;
 use importrun::{ImportRun, LONGEST_RECORD};
 
-fn read_after(rt: &HostRuntime, block: &mut [u8], kept: usize, room: usize) -> isize
+fn read_after(rt: &HostRuntime, block: &mut [u8], kept: usize, room: usize) -> Option<usize>
     requires { kept + room ≤ length block.old }
 {
     streams::read_some(&mut rt.stdin(), &mut block[kept..kept + room])

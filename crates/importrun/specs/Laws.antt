@@ -1,6 +1,6 @@
 -- From what the calls below say to the promises.
 -- Assumes nothing.
-use Rattle.std.specs.Prelude.{ℕ, ◌+◌, ◌-◌, ◌≤◌, ◌<◌, min, ◌≡◌, Bool, true, false, List, [], length, take, drop, get_or, set, ℤ}
+use Rattle.std.specs.Prelude.{ℕ, ◌+◌, ◌-◌, ◌≤◌, ◌<◌, min, ◌≡◌, Bool, true, false, List, [], length, take, drop, get_or, set}
 use Rattle.std.proofs.Common.{sym, ◌∙◌, ap, ap₂, subst, zero-add, arith, length-take, length-drop, drop_of_length-le, length-take-le, get_or-append-add, get_or-drop, get_or-take}
 use Rattle.std.proofs.Math.Nat.{min-eq_left, min-eq_right}
 use Rattle.writer.specs.Promise.{put}
@@ -8,7 +8,7 @@ use Rattle.writer.proofs.PutLaws.{put_none, Copying, copying_on, copying_done}
 use Rattle.filter.specs.declared.Phase.TheVariants.{Reading, Midway, Closing}
 use Rattle.filter.specs.declared.Event.{Event}
 use Rattle.filter.specs.declared.State.{State}
-use Rattle.filter.specs.Promise.{block_size, room_of, event_of, state_with_value}
+use Rattle.filter.specs.Promise.{block_size, room_of, state_with_value}
 use Rattle.filter.specs.Laws.{room_fits}
 use Rattle.listrun.specs.Promise.{state_at_value}
 use Rattle.nametable.specs.declared.Names.{Names}
@@ -85,5 +85,5 @@ module _ {m : Names} {b l x : List ℕ} {from n : ℕ} {ends : Bool} {o : ℕ} {
     turn_spent {b'} {j} {k} d t y z g v h =
         subst (Advances m b l x from n ends o b' l' x') (sym (h ∙ ap₂ run_with_value g v)) (Advances.spent t (as_told b n e d i) (subst (λ (a : ℕ). Keeps b p.at a b' k) y z))
 
-pub goes : {m : Names} {b l o b' l' o' : List ℕ} {r r' : ImportRun} {x y : Event} (w : Bool) {g z : ℤ} → g ≡ z → x ≡ event_of r.state w g → x ≡ y → GoesOn m b l o r y b' l' o' r' → GoesOn m b l o r (event_of r.state w z) b' l' o' r'
-goes {m} {b} {l} {o} {b'} {l'} {o'} {r} {r'} w d e f t = subst (λ (v : Event). GoesOn m b l o r v b' l' o' r') (sym f ∙ e ∙ ap (event_of r.state w) d) t
+pub goes : {m : Names} {b l o b' l' o' : List ℕ} {r r' : ImportRun} {x y z : Event} → x ≡ z → x ≡ y → GoesOn m b l o r y b' l' o' r' → GoesOn m b l o r z b' l' o' r'
+goes {m} {b} {l} {o} {b'} {l'} {o'} {r} {r'} e f t = subst (λ (v : Event). GoesOn m b l o r v b' l' o' r') (sym f ∙ e) t

@@ -3,7 +3,7 @@
 -- read, and what is written is the import of the input whatever that rest is. So two runs on one input write the same (`any_run`). A file has fewer than
 -- 2^64 bytes here.
 -- Assumes nothing.
-use Rattle.std.specs.Prelude.{ℕ, ◌+◌, ◌-◌, ◌≤◌, ◌<◌, min, ◌≡◌, Bool, true, false, pos}
+use Rattle.std.specs.Prelude.{ℕ, ◌+◌, ◌-◌, ◌≤◌, ◌<◌, min, ◌≡◌, Bool, true, false, pos, Some}
 use Rattle.std.proofs.Math.Path.{refl, sym, ap, ap₂, subst}
 use Rattle.std.proofs.Common.{◌∙◌, true≢false, zero-add, add-zero, arith, take-append-drop, drop_of_length-le}
 use mathlib.Core.List.{List, [], ◌∷◌, ◌++◌, append_assoc, append-nil}
@@ -48,9 +48,9 @@ module _ (m : Names) where
   pub data Turns : Bool → ImportRun → List ℕ → List ℕ → List ℕ → List ℕ → List ℕ → Type 0 where
     over : {r : ImportRun} {b l x : List ℕ} → goes_on_value r.state.phase ≡ false → Turns false r b l x [] []
     turn : {f : Bool} {r r' : ImportRun} {b b' b'' l l' x x' c i t : List ℕ} → goes_on_value r.state.phase ≡ true → output_of r.state.phase ≡ pos 1 → Reads (kept_of r.state) (room_left r.state true) b c b' → (r.state.phase ≡ Reading → 0 < length c)
-        → GoesOn m b' l x r (event_of r.state true (pos (length c))) b'' l' x' r' → Turns f r' b'' l' x' i t → Turns f r b l x (c ++ i) (take r.state.used x ++ t)
+        → GoesOn m b' l x r (event_of r.state true (Some (length c))) b'' l' x' r' → Turns f r' b'' l' x' i t → Turns f r b l x (c ++ i) (take r.state.used x ++ t)
     ends : {f : Bool} {r r' : ImportRun} {b b' b'' l l' x x' t : List ℕ} → r.state.phase ≡ Reading → Reads (kept_of r.state) (room_left r.state true) b [] b'
-        → GoesOn m b' l x r (event_in Reading r.state.at r.state.count true (pos 0)) b'' l' x' r' → Turns f r' b'' l' x' [] t → Turns true r b l x [] (take r.state.used x ++ t)
+        → GoesOn m b' l x r (event_in Reading r.state.at r.state.count true (Some 0)) b'' l' x' r' → Turns f r' b'' l' x' [] t → Turns true r b l x [] (take r.state.used x ++ t)
 
   -- ---- what is still to come, by the phase
 
@@ -107,7 +107,7 @@ module _ (m : Names) where
 
   -- ---- turn after turn
 
-  finished : {f : Bool} {r r' : ImportRun} {b b'' l l' x x' i t : List ℕ} → GoesOn m b l x r (event_in Closing r.state.at r.state.count true (pos 0)) b'' l' x' r' → After f r' b'' x' i t r'.state.phase → (i ≡ []) × (take r.state.used x ++ t ≡ take r.state.used x)
+  finished : {f : Bool} {r r' : ImportRun} {b b'' l l' x x' i t : List ℕ} → GoesOn m b l x r (event_in Closing r.state.at r.state.count true (Some 0)) b'' l' x' r' → After f r' b'' x' i t r'.state.phase → (i ≡ []) × (take r.state.used x ++ t ≡ take r.state.used x)
   finished {r = r} {x = x} GoesOn.ends (After.ended e d) = (e, ap (λ (y : List ℕ). take r.state.used x ++ y) d ∙ append-nil (take r.state.used x))
 
   -- a read of no bytes leaves the block as it was
@@ -121,7 +121,7 @@ module _ (m : Names) where
   kept_none : {h n : ℕ} → h ≡ 0 → n ≤ block_size → place_of (min h block_size) n ≡ n
   kept_none {h} {n} e k = ap (λ (j : ℕ). place_of (min j block_size) n) e ∙ ap (λ (j : ℕ). min j most_place) (zero-add n) ∙ min-eq_left (omega arith)
 
-  midway_turn : {f : Bool} {r r' : ImportRun} {b b'' l l' x x' i t : List ℕ} → GoesOn m b l x r (event_in Midway r.state.at r.state.count true (pos 0)) b'' l' x' r' → After f r' b'' x' i t r'.state.phase → After f r b x i (take r.state.used x ++ t) Midway
+  midway_turn : {f : Bool} {r r' : ImportRun} {b b'' l l' x x' i t : List ℕ} → GoesOn m b l x r (event_in Midway r.state.at r.state.count true (Some 0)) b'' l' x' r' → After f r' b'' x' i t r'.state.phase → After f r b x i (take r.state.used x ++ t) Midway
   midway_turn {r = r} {r'} {b} {b''} {l} {l'} {x} {x'} {t = t} (GoesOn.works_on a) q =
       After.midway t refl (λ long e k h. advance_comes {x = x} long k h (λ y. y) (λ y. absurd (true≢false (sym y))) (λ y. absurd (true≢false (sym y))) (subst (λ (n : ℕ). Advances m b l x r.state.at n false r.offset b'' l' x' r') (kept_none e k) a) q)
 
@@ -150,19 +150,19 @@ module _ (m : Names) where
     came_is = ap (λ (j : ℕ). take (j + length c) b') (sym kept_is) ∙ g.front ∙ ap (λ (j : ℕ). take j b ++ c) kept_is
 
   reading_turn : {f : Bool} {r r' : ImportRun} {b b' b'' l l' x x' i t : List ℕ} (y : ℕ) (c : List ℕ) → Reads (kept_of r.state) (block_size - kept_of r.state) b (y ∷ c) b'
-      → GoesOn m b' l x r (event_in Reading r.state.at r.state.count true (pos (length (y ∷ c)))) b'' l' x' r' → After f r' b'' x' i t r'.state.phase → After f r b x ((y ∷ c) ++ i) (take r.state.used x ++ t) Reading
+      → GoesOn m b' l x r (event_in Reading r.state.at r.state.count true (Some (length (y ∷ c)))) b'' l' x' r' → After f r' b'' x' i t r'.state.phase → After f r b x ((y ∷ c) ++ i) (take r.state.used x ++ t) Reading
   reading_turn {r = r} {r'} {b} {b'} {b''} {l} {l'} {x} {x'} {t = t} y c g (GoesOn.works_on a) q =
       After.reading t refl (λ long k. moved _ _ _ _ _ (take r.state.held b) (y ∷ c) (came_is k g) (advance_comes {x = x} (g.long ∙ long) (all_fit k g) (omega arith) (λ u. u) (λ u. absurd (true≢false (sym u))) (λ u. absurd (true≢false (sym u)))
       (subst (λ (n : ℕ). Advances m b' l x 0 n false r.offset b'' l' x' r') (all_came k g) a) q))
 
   last_turn : {f : Bool} {r r' : ImportRun} {b b' b'' l l' x x' t : List ℕ} → Reads (kept_of r.state) (block_size - kept_of r.state) b [] b'
-      → GoesOn m b' l x r (event_in Reading r.state.at r.state.count true (pos 0)) b'' l' x' r' → After f r' b'' x' [] t r'.state.phase → After true r b x [] (take r.state.used x ++ t) Reading
+      → GoesOn m b' l x r (event_in Reading r.state.at r.state.count true (Some 0)) b'' l' x' r' → After f r' b'' x' [] t r'.state.phase → After true r b x [] (take r.state.used x ++ t) Reading
   last_turn {r = r} {r'} {b} {b'} {b''} {l} {l'} {x} {x'} {t = t} g (GoesOn.last_record a) q =
       After.reading t refl (λ long k. moved _ _ _ _ _ (take r.state.held b) [] (ap (λ (n : ℕ). take n b') (sym (add-zero r.state.held)) ∙ came_is k g) (advance_comes {x = x} (g.long ∙ long) k (omega arith) (λ u. refl) (λ u. refl) (λ u. refl)
       (subst (λ (n : ℕ). Advances m b' l x 0 n true r.offset b'' l' x' r') (kept_is k g) a) q))
 
   turn_follows : (p : Phase) {f : Bool} {r r' : ImportRun} {b b' b'' l l' x x' i t : List ℕ} (c : List ℕ) → goes_on_value p ≡ true → (p ≡ Reading → 0 < length c) → Reads (kept_of r.state) (room_of p true - kept_of r.state) b c b'
-      → GoesOn m b' l x r (event_in p r.state.at r.state.count true (pos (length c))) b'' l' x' r' → After f r' b'' x' i t r'.state.phase → After f r b x (c ++ i) (take r.state.used x ++ t) p
+      → GoesOn m b' l x r (event_in p r.state.at r.state.count true (Some (length c))) b'' l' x' r' → After f r' b'' x' i t r'.state.phase → After f r b x (c ++ i) (take r.state.used x ++ t) p
   turn_follows Reading [] e n g a q = absurd (omega (arith, n refl))
   turn_follows Reading (y ∷ c) e n g a q = reading_turn y c g a q
   turn_follows Midway {f} {r} {r'} {b} {b'} {b''} {l} {l'} {x} {x'} {i} {t} [] e n g a q = subst (λ (y : List ℕ). After f r y x i (take r.state.used x ++ t) Midway) (same_block (kept_of r.state) b b' g) (midway_turn a q)
@@ -180,7 +180,7 @@ module _ (m : Names) where
   none_follow Ended e = After.ended refl refl
 
   last_follows : (p : Phase) {f : Bool} {r r' : ImportRun} {b b' b'' l l' x x' t : List ℕ} → p ≡ Reading → Reads (kept_of r.state) (room_of p true - kept_of r.state) b [] b'
-      → GoesOn m b' l x r (event_in Reading r.state.at r.state.count true (pos 0)) b'' l' x' r' → After f r' b'' x' [] t r'.state.phase → After true r b x [] (take r.state.used x ++ t) p
+      → GoesOn m b' l x r (event_in Reading r.state.at r.state.count true (Some 0)) b'' l' x' r' → After f r' b'' x' [] t r'.state.phase → After true r b x [] (take r.state.used x ++ t) p
   last_follows Reading e g a q = last_turn g a q
   last_follows Midway e g a q = let z : ◌≡◌ {A = ℕ} 0 1 = cc in absurd (omega arith)
   last_follows Closing e g a q = let z : ◌≡◌ {A = ℕ} 0 1 = cc in absurd (omega arith)

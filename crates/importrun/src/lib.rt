@@ -131,7 +131,7 @@ pub fn go_on(
     names: &Names,
     run: ImportRun,
     written: bool,
-    got: isize,
+    got: Option<usize>,
     block: &mut [u8; BLOCK_SIZE],
     line: &mut [u8; LONGEST_RECORD],
     out: &mut [u8; BLOCK_SIZE],

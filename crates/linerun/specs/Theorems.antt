@@ -3,7 +3,7 @@
 -- where a line has one answer (`any_run`). What stood in the output before the first turn is written before it (`run_after`); a program that starts with
 -- the end of its output reads nothing (`run_closes`). A turn within a block goes further in it (`goes_further`): no block holds a program for ever.
 -- Assumes nothing.
-use Rattle.std.specs.Prelude.{ℕ, zero, suc, ◌+◌, ◌≤◌, ◌<◌, ◌≡◌, refl, true, false, List, [], ◌∷◌, ◌++◌, length, take, drop, pos}
+use Rattle.std.specs.Prelude.{ℕ, zero, suc, ◌+◌, ◌≤◌, ◌<◌, ◌≡◌, refl, true, false, List, [], ◌∷◌, ◌++◌, length, take, drop, pos, Some}
 use Rattle.std.proofs.Common.{sym, ◌∙◌, ap, subst, true≢false, append_assoc, append-nil, arith, length-take, drop_of_length-le, take_at}
 use Rattle.std.proofs.Math.Nat.{min-eq_left}
 use Rattle.writer.specs.Promise.{put}
@@ -40,7 +40,7 @@ module _ (Out : List ℕ → List ℕ → Type 0) (unread unwritten : List ℕ) 
   pub data Turns : State → List ℕ → List ℕ → List ℕ → List ℕ → List ℕ → Type 0 where
     over : {s : State} {b l o : List ℕ} → goes_on_value s.phase ≡ false → Turns s b l o [] []
     turn : {s s' : State} {b b' l l' o o' c i t : List ℕ} → goes_on_value s.phase ≡ true → output_of s.phase ≡ pos 1 → Reads (room_of s.phase true) b c b'
-        → GoesOn Out unread unwritten b' l o s (event_of s true (pos (length c))) l' o' s' → Turns s' b' l' o' i t → Turns s b l o (c ++ i) (take s.used o ++ t)
+        → GoesOn Out unread unwritten b' l o s (event_of s true (Some (length c))) l' o' s' → Turns s' b' l' o' i t → Turns s b l o (c ++ i) (take s.used o ++ t)
 
   -- ---- what is still to come, by the phase
 
@@ -113,18 +113,18 @@ module _ (Out : List ℕ → List ℕ → Type 0) (unread unwritten : List ℕ) 
 
   -- ---- a turn, by the phase
 
-  closing_turn : {s s' : State} {a b l l' o o' i t : List ℕ} → GoesOn Out unread unwritten b l o s (event_in Closing s.at s.count true (pos 0)) l' o' s' → After s' b l' o' i t s'.phase → After s a l o i (take s.used o ++ t) Closing
+  closing_turn : {s s' : State} {a b l l' o o' i t : List ℕ} → GoesOn Out unread unwritten b l o s (event_in Closing s.at s.count true (Some 0)) l' o' s' → After s' b l' o' i t s'.phase → After s a l o i (take s.used o ++ t) Closing
   closing_turn {s} {o = o} (GoesOn.goes_on NextTurn.ends Answers.no_answer) (After.ended e f) = After.closing e (ap (λ (x : List ℕ). take s.used o ++ x) f ∙ append-nil (take s.used o))
 
-  midway_turn : {s s' : State} {b l l' o o' i t : List ℕ} → GoesOn Out unread unwritten b l o s (event_in Midway s.at s.count true (pos 0)) l' o' s' → After s' b l' o' i t s'.phase → After s b l o i (take s.used o ++ t) Midway
+  midway_turn : {s s' : State} {b l l' o o' i t : List ℕ} → GoesOn Out unread unwritten b l o s (event_in Midway s.at s.count true (Some 0)) l' o' s' → After s' b l' o' i t s'.phase → After s b l o i (take s.used o ++ t) Midway
   midway_turn (GoesOn.goes_on (NextTurn.works_on a) y) c = After.midway (advance_goes a y c) refl
 
-  reading_turn : {s s' : State} {a b l l' o o' i t : List ℕ} (c : List ℕ) → length c ≤ block_size → take (length c) b ≡ c → GoesOn Out unread unwritten b l o s (event_in Reading s.at s.count true (pos (length c))) l' o' s' → After s' b l' o' i t s'.phase
+  reading_turn : {s s' : State} {a b l l' o o' i t : List ℕ} (c : List ℕ) → length c ≤ block_size → take (length c) b ≡ c → GoesOn Out unread unwritten b l o s (event_in Reading s.at s.count true (Some (length c))) l' o' s' → After s' b l' o' i t s'.phase
       → After s a l o (c ++ i) (take s.used o ++ t) Reading
   reading_turn {s} [] h e (GoesOn.goes_on NextTurn.last_line y) q = After.reading (end_goes s.held y q) refl
   reading_turn {b = b} {i = i} (x ∷ c) h e (GoesOn.goes_on (NextTurn.works_on a) y) q = After.reading (goes_same (ap (λ (z : List ℕ). z ++ i) (ap (λ (k : ℕ). take k b) (min-eq_left h) ∙ e)) refl (advance_goes a y q)) refl
 
-  turn_follows : (p : Phase) {s s' : State} {b b' l l' o o' i t : List ℕ} (c : List ℕ) → goes_on_value p ≡ true → Reads (room_of p true) b c b' → GoesOn Out unread unwritten b' l o s (event_in p s.at s.count true (pos (length c))) l' o' s' → After s' b' l' o' i t s'.phase
+  turn_follows : (p : Phase) {s s' : State} {b b' l l' o o' i t : List ℕ} (c : List ℕ) → goes_on_value p ≡ true → Reads (room_of p true) b c b' → GoesOn Out unread unwritten b' l o s (event_in p s.at s.count true (Some (length c))) l' o' s' → After s' b' l' o' i t s'.phase
       → After s b l o (c ++ i) (take s.used o ++ t) p
   turn_follows Reading c e r g q = reading_turn c r.short r.front g q
   turn_follows Midway {s} {l = l} {o = o} {i = i} {t} [] e r g q = subst (λ (x : List ℕ). After s x l o i (take s.used o ++ t) Midway) r.rest (midway_turn g q)

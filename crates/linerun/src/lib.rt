@@ -30,7 +30,7 @@ pub enum Turn {
 pub fn next(
     state: State,
     written: bool,
-    got: isize,
+    got: Option<usize>,
     block: &[u8; BLOCK_SIZE],
     line: &mut [u8; LONGEST_READ],
 ) -> Turn

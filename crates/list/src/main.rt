@@ -9,7 +9,7 @@ use catalogue::Names;
 use filter::{BLOCK_SIZE, State};
 use listrun::LONGEST_ENTRY;
 
-fn read_some(rt: &HostRuntime, block: &mut [u8], room: usize) -> isize
+fn read_some(rt: &HostRuntime, block: &mut [u8], room: usize) -> Option<usize>
     requires { room ≤ length block.old }
 {
     streams::read_some(&mut rt.stdin(), &mut block[..room])

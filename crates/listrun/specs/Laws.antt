@@ -1,6 +1,6 @@
 -- From what the calls below say to the promises.
 -- Assumes nothing.
-use Rattle.std.specs.Prelude.{ℕ, ◌+◌, ◌≤◌, ◌<◌, ◌≡◌, refl, Bool, List, ◌++◌, length, take, ℤ, Result, Err}
+use Rattle.std.specs.Prelude.{ℕ, ◌+◌, ◌≤◌, ◌<◌, ◌≡◌, refl, List, ◌++◌, length, take, Result, Err}
 use Rattle.std.specs.Result.{result_unwrap_or}
 use Rattle.std.proofs.Common.{sym, ◌∙◌, ap, ap₂, subst, zero-add, arith, length-append}
 use Rattle.whole.specs.Text.{bytes}
@@ -14,7 +14,7 @@ use Rattle.listing.specs.Laws.{held_short}
 use Rattle.filter.specs.declared.Phase.TheVariants.{Reading, Midway, Closing}
 use Rattle.filter.specs.declared.Event.{Event}
 use Rattle.filter.specs.declared.State.{State}
-use Rattle.filter.specs.Promise.{event_of, state_with_value, block_size}
+use Rattle.filter.specs.Promise.{state_with_value, block_size}
 use Rattle.linetext.specs.Line.{longest_line}
 use Rattle.linetext.specs.Promise.{LineOut}
 use Rattle.nametable.specs.declared.Names.{Names}
@@ -87,6 +87,6 @@ module _ {m : Names} {b c l o l' o' : List ℕ} {from n h at h' u : ℕ} {s : St
   pub uses_up : n ≤ at → s ≡ state_at_value Reading at n h' u → Advances m b l o from n h l' o' s
   uses_up i q = subst (Advances m b l o from n h l' o') (sym q) (Advances.used_up (lists_in e w) i)
 
--- by what has happened, where the answer of the read was handed on as g
-pub goes : {m : Names} {b l o l' o' : List ℕ} {s s' : State} {x y : Event} (w : Bool) {g z : ℤ} → g ≡ z → x ≡ event_of s w g → x ≡ y → GoesOn m b l o s y l' o' s' → GoesOn m b l o s (event_of s w z) l' o' s'
-goes {m} {b} {l} {o} {l'} {o'} {s} {s'} w d e f t = subst (λ (v : Event). GoesOn m b l o s v l' o' s') (sym f ∙ e ∙ ap (event_of s w) d) t
+-- by what has happened
+pub goes : {m : Names} {b l o l' o' : List ℕ} {s s' : State} {x y z : Event} → x ≡ z → x ≡ y → GoesOn m b l o s y l' o' s' → GoesOn m b l o s z l' o' s'
+goes {m} {b} {l} {o} {l'} {o'} {s} {s'} e f t = subst (λ (v : Event). GoesOn m b l o s v l' o' s') (sym f ∙ e) t

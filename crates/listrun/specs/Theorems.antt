@@ -3,7 +3,7 @@
 -- Where the catalogue is refused the input is not read (`run_refused`). A turn within a block goes further in it (`goes_further`): no block holds a
 -- program for ever.
 -- Assumes nothing.
-use Rattle.std.specs.Prelude.{ℕ, ◌+◌, ◌-◌, ◌≤◌, ◌<◌, ◌≡◌, refl, true, false, List, [], ◌∷◌, ◌++◌, length, take, drop, pos}
+use Rattle.std.specs.Prelude.{ℕ, ◌+◌, ◌-◌, ◌≤◌, ◌<◌, ◌≡◌, refl, true, false, List, [], ◌∷◌, ◌++◌, length, take, drop, pos, Some}
 use Rattle.std.proofs.Common.{sym, ◌∙◌, ap, subst, true≢false, append_assoc, append-nil, arith, length-take, take-append-drop, drop_of_length-le, take_at, drop-drop}
 use Rattle.std.proofs.Math.Nat.{min-eq_left}
 use Rattle.writer.specs.Promise.{put}
@@ -42,7 +42,7 @@ module _ (m : Names) where
   pub data Turns : State → List ℕ → List ℕ → List ℕ → List ℕ → List ℕ → Type 0 where
     over : {s : State} {b l o : List ℕ} → goes_on_value s.phase ≡ false → Turns s b l o [] []
     turn : {s s' : State} {b b' l l' o o' c i t : List ℕ} → goes_on_value s.phase ≡ true → output_of s.phase ≡ pos 1 → Reads (room_of s.phase true) b c b'
-        → GoesOn m b' l o s (event_of s true (pos (length c))) l' o' s' → Turns s' b' l' o' i t → Turns s b l o (c ++ i) (take s.used o ++ t)
+        → GoesOn m b' l o s (event_of s true (Some (length c))) l' o' s' → Turns s' b' l' o' i t → Turns s b l o (c ++ i) (take s.used o ++ t)
 
   -- ---- what is still to come, by the phase
 
@@ -94,13 +94,13 @@ module _ (m : Names) where
   put_front : (o t : List ℕ) → take (length t) (put o 0 t) ≡ t
   put_front o t = take_at t (drop (0 + length t) o) (length t) refl
 
-  closing_turn : {s s' : State} {a b l l' o o' i t : List ℕ} → GoesOn m b l o s (event_in Closing s.at s.count true (pos 0)) l' o' s' → After s' b l' o' i t s'.phase → After s a l o i (take s.used o ++ t) Closing
+  closing_turn : {s s' : State} {a b l l' o o' i t : List ℕ} → GoesOn m b l o s (event_in Closing s.at s.count true (Some 0)) l' o' s' → After s' b l' o' i t s'.phase → After s a l o i (take s.used o ++ t) Closing
   closing_turn {s} {o = o} GoesOn.ends (After.ended e f) = After.closing e (ap (λ (x : List ℕ). take s.used o ++ x) f ∙ append-nil (take s.used o))
 
-  midway_turn : {s s' : State} {b l l' o o' i t : List ℕ} → GoesOn m b l o s (event_in Midway s.at s.count true (pos 0)) l' o' s' → After s' b l' o' i t s'.phase → After s b l o i (take s.used o ++ t) Midway
+  midway_turn : {s s' : State} {b l l' o o' i t : List ℕ} → GoesOn m b l o s (event_in Midway s.at s.count true (Some 0)) l' o' s' → After s' b l' o' i t s'.phase → After s b l o i (take s.used o ++ t) Midway
   midway_turn {t = t} (GoesOn.works_on a) c = let g = advance_goes a c in After.midway (record { parts = g.parts; lines = t; calls = g.calls; all = g.all; text = refl })
 
-  reading_turn : {s s' : State} {a b l l' o o' i t : List ℕ} (c : List ℕ) → length c ≤ block_size → take (length c) b ≡ c → GoesOn m b l o s (event_in Reading s.at s.count true (pos (length c))) l' o' s' → After s' b l' o' i t s'.phase
+  reading_turn : {s s' : State} {a b l l' o o' i t : List ℕ} (c : List ℕ) → length c ≤ block_size → take (length c) b ≡ c → GoesOn m b l o s (event_in Reading s.at s.count true (Some (length c))) l' o' s' → After s' b l' o' i t s'.phase
       → After s a l o (c ++ i) (take s.used o ++ t) Reading
   reading_turn {s} {o = o} [] h e (GoesOn.last_line (Closes.closes {t = u} x)) (After.closing f g) =
       After.reading (record { parts = []; lines = u; calls = Calls.ends x; all = sym f; text = ap (λ (y : List ℕ). take s.used o ++ y) (g ∙ put_front o u) })
@@ -108,7 +108,7 @@ module _ (m : Names) where
       let g = advance_goes a q in
       After.reading (record { parts = g.parts; lines = t; calls = g.calls; all = g.all ∙ ap (λ (y : List ℕ). y ++ i) (ap (λ (k : ℕ). take k b) (min-eq_left h) ∙ e); text = refl })
 
-  turn_follows : (p : Phase) {s s' : State} {b b' l l' o o' i t : List ℕ} (c : List ℕ) → goes_on_value p ≡ true → Reads (room_of p true) b c b' → GoesOn m b' l o s (event_in p s.at s.count true (pos (length c))) l' o' s' → After s' b' l' o' i t s'.phase
+  turn_follows : (p : Phase) {s s' : State} {b b' l l' o o' i t : List ℕ} (c : List ℕ) → goes_on_value p ≡ true → Reads (room_of p true) b c b' → GoesOn m b' l o s (event_in p s.at s.count true (Some (length c))) l' o' s' → After s' b' l' o' i t s'.phase
       → After s b l o (c ++ i) (take s.used o ++ t) p
   turn_follows Reading c e r g q = reading_turn c r.short r.front g q
   turn_follows Midway {s} {s'} {b} {b'} {l} {l'} {o} {o'} {i} {t} [] e r g q =

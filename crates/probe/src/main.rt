@@ -342,11 +342,9 @@ fn main(rt: HostRuntime) {
     let mut n: usize = 0;
     // The number of turns only bounds the loop: no input is so long.
     for _ in 0..u64::MAX {
-        let got = streams::read_some(&mut rt.stdin(), &mut block);
-        if got <= 0 {
-            break;
+        match streams::read_some(&mut rt.stdin(), &mut block) {
+            None | Some(0) => break,
+            Some(count) => n = feed(&rt, query::front(&block, count), &mut line, n, &mut out),
         }
-        let count = got as usize;
-        n = feed(&rt, query::front(&block, count), &mut line, n, &mut out);
     }
 }

@@ -1,4 +1,4 @@
-// The input and the output of a program: what a read answered as a number, and texts and numbers written.
+// The input and the output of a program: blocks read, and texts and numbers written.
 // For programs.
 
 #![tactic(auto)]
@@ -7,12 +7,9 @@ ghost use Rattle.std.specs.Prelude.{◌≤◌, length};
 
 use std::io::{Print, Read, Write};
 
-// One read: how many bytes came, none where the input has ended, or -1 where it failed.
-pub fn read_some<R: Read>(from: &mut R, block: &mut [u8]) -> isize {
-    match from.read(block) {
-        Ok(count) => count as isize,
-        Err(_) => -1,
-    }
+// One read: how many bytes came, 0 where the input has ended; nothing where it failed.
+pub fn read_some<R: Read>(from: &mut R, block: &mut [u8]) -> Option<usize> {
+    from.read(block).ok()
 }
 
 // Reads until the buffer is full, the input ends or a read fails, and tells how many bytes came.
