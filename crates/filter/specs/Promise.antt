@@ -1,9 +1,11 @@
 -- What a program that reads blocks does next, by its phase, and what has happened since the last call. All are tables.
 -- Assumes nothing.
-use Rattle.std.specs.Prelude.{ℕ, zero, suc, ◌≤◌, ◌<◌, min, Bool, true, false, List, length, ℤ, pos, Option, Some, None}
+use Rattle.std.specs.Prelude.{ℕ, zero, suc, ◌≤◌, ◌<◌, min, Bool, true, false, List, length, Option, Some, None}
 use Rattle.writer.specs.Promise.{put}
 use Rattle.filter.specs.declared.Phase.{Phase}
 use Rattle.filter.specs.declared.Phase.TheVariants.{Reading, Midway, Closing, Failing, Ended}
+use Rattle.filter.specs.declared.Stream.{Stream}
+use Rattle.filter.specs.declared.Stream.TheVariants.{Output, Error}
 use Rattle.filter.specs.declared.Event.{Event}
 use Rattle.filter.specs.declared.Event.TheVariants.{Block, InputEnds, Unread, Unwritten, Finished}
 use Rattle.filter.specs.declared.State.{State}
@@ -17,12 +19,12 @@ goes_on_value Failing = true
 goes_on_value Ended = false
 
 -- messages go to standard error, all else to standard output
-abbrev pub output_of : Phase → ℤ
-output_of Reading = pos 1
-output_of Midway = pos 1
-output_of Closing = pos 1
-output_of Failing = pos 2
-output_of Ended = pos 1
+abbrev pub output_of : Phase → Stream
+output_of Reading = Output
+output_of Midway = Output
+output_of Closing = Output
+output_of Failing = Error
+output_of Ended = Output
 
 -- the bytes of a block
 abbrev pub block_size : ℕ

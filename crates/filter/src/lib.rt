@@ -1,6 +1,6 @@
 // A program that reads its input block by block and writes as it goes. What it does next is decided here and in the crates above, so that its
 // loop decides nothing: it writes the front of its output, reads into its block, and calls.
-// For programs: `goes_on`, `output`, `room`, `front`, `State` and `BLOCK_SIZE`. For the crates above: all else.
+// For programs: `goes_on`, `output`, `room`, `front`, `State`, `Stream` and `BLOCK_SIZE`. For the crates above: all else.
 
 #![tactic(auto)]
 
@@ -38,6 +38,13 @@ pub struct State {
     pub used: usize,
 }
 
+// The standard output, and the standard error.
+#[derive(Clone, Copy)]
+pub enum Stream {
+    Output,
+    Error,
+}
+
 // What has happened since the last call.
 #[derive(Clone, Copy)]
 pub enum Event {
@@ -57,13 +64,13 @@ pub fn goes_on(state: State) -> bool
     !matches!(state.phase, Phase::Ended)
 }
 
-// The descriptor that the output is written to.
-pub fn output(state: State) -> i32
+// Where the output is written to.
+pub fn output(state: State) -> Stream
     ensures { result ≡ output_of state.phase }
 {
     match state.phase {
-        Phase::Failing => 2,
-        Phase::Reading | Phase::Midway | Phase::Closing | Phase::Ended => 1,
+        Phase::Failing => Stream::Error,
+        Phase::Reading | Phase::Midway | Phase::Closing | Phase::Ended => Stream::Output,
     }
 }
 

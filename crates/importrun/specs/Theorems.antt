@@ -3,7 +3,7 @@
 -- read, and what is written is the import of the input whatever that rest is. So two runs on one input write the same (`any_run`). A file has fewer than
 -- 2^64 bytes here.
 -- Assumes nothing.
-use Rattle.std.specs.Prelude.{ℕ, ◌+◌, ◌-◌, ◌≤◌, ◌<◌, min, ◌≡◌, Bool, true, false, pos, Some}
+use Rattle.std.specs.Prelude.{ℕ, ◌+◌, ◌-◌, ◌≤◌, ◌<◌, min, ◌≡◌, Bool, true, false, Some}
 use Rattle.std.proofs.Math.Path.{refl, sym, ap, ap₂, subst}
 use Rattle.std.proofs.Common.{◌∙◌, true≢false, zero-add, add-zero, arith, take-append-drop, drop_of_length-le}
 use mathlib.Core.List.{List, [], ◌∷◌, ◌++◌, append_assoc, append-nil}
@@ -20,6 +20,7 @@ use Rattle.cataloguerun.specs.declared.CatalogueRun.{CatalogueRun}
 use Rattle.cataloguerun.specs.Theorems.{ComesTo, ready, refused}
 use Rattle.filter.specs.declared.Phase.{Phase}
 use Rattle.filter.specs.declared.Phase.TheVariants.{Reading, Midway, Closing, Failing, Ended}
+use Rattle.filter.specs.declared.Stream.TheVariants.{Output}
 use Rattle.filter.specs.Promise.{goes_on_value, output_of, room_of, event_of, event_in, block_size}
 use Rattle.listrun.specs.Promise as List'
 use Rattle.importing.specs.declared.Stopped.{Stopped}
@@ -47,7 +48,7 @@ module _ (m : Names) where
   -- was such a read.
   pub data Turns : Bool → ImportRun → List ℕ → List ℕ → List ℕ → List ℕ → List ℕ → Type 0 where
     over : {r : ImportRun} {b l x : List ℕ} → goes_on_value r.state.phase ≡ false → Turns false r b l x [] []
-    turn : {f : Bool} {r r' : ImportRun} {b b' b'' l l' x x' c i t : List ℕ} → goes_on_value r.state.phase ≡ true → output_of r.state.phase ≡ pos 1 → Reads (kept_of r.state) (room_left r.state true) b c b' → (r.state.phase ≡ Reading → 0 < length c)
+    turn : {f : Bool} {r r' : ImportRun} {b b' b'' l l' x x' c i t : List ℕ} → goes_on_value r.state.phase ≡ true → output_of r.state.phase ≡ Output → Reads (kept_of r.state) (room_left r.state true) b c b' → (r.state.phase ≡ Reading → 0 < length c)
         → GoesOn m b' l x r (event_of r.state true (Some (length c))) b'' l' x' r' → Turns f r' b'' l' x' i t → Turns f r b l x (c ++ i) (take r.state.used x ++ t)
     ends : {f : Bool} {r r' : ImportRun} {b b' b'' l l' x x' t : List ℕ} → r.state.phase ≡ Reading → Reads (kept_of r.state) (room_left r.state true) b [] b'
         → GoesOn m b' l x r (event_in Reading r.state.at r.state.count true (Some 0)) b'' l' x' r' → Turns f r' b'' l' x' [] t → Turns true r b l x [] (take r.state.used x ++ t)

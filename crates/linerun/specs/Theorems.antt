@@ -3,7 +3,7 @@
 -- where a line has one answer (`any_run`). What stood in the output before the first turn is written before it (`run_after`); a program that starts with
 -- the end of its output reads nothing (`run_closes`). A turn within a block goes further in it (`goes_further`): no block holds a program for ever.
 -- Assumes nothing.
-use Rattle.std.specs.Prelude.{ℕ, zero, suc, ◌+◌, ◌≤◌, ◌<◌, ◌≡◌, refl, true, false, List, [], ◌∷◌, ◌++◌, length, take, drop, pos, Some}
+use Rattle.std.specs.Prelude.{ℕ, zero, suc, ◌+◌, ◌≤◌, ◌<◌, ◌≡◌, refl, true, false, List, [], ◌∷◌, ◌++◌, length, take, drop, Some}
 use Rattle.std.proofs.Common.{sym, ◌∙◌, ap, subst, true≢false, append_assoc, append-nil, arith, length-take, drop_of_length-le, take_at}
 use Rattle.std.proofs.Math.Nat.{min-eq_left}
 use Rattle.writer.specs.Promise.{put}
@@ -18,6 +18,7 @@ use Rattle.filter.specs.declared.Phase.{Phase}
 use Rattle.filter.specs.declared.Phase.TheVariants.{Reading, Midway, Closing, Failing, Ended}
 use Rattle.filter.specs.declared.Event.TheVariants.{Block}
 use Rattle.filter.specs.declared.State.{State}
+use Rattle.filter.specs.declared.Stream.TheVariants.{Output}
 use Rattle.filter.specs.Promise.{goes_on_value, output_of, room_of, event_of, event_in, block_size, state_with_value}
 use Rattle.linerun.specs.declared.Turn.{Turn}
 use Rattle.linerun.specs.Promise.{last_of, EndsAt, TakesNext, Advances, NextTurn, HeldOut, Answers, GoesOn, AllOut, LinesOut}
@@ -39,7 +40,7 @@ module _ (Out : List ℕ → List ℕ → Type 0) (unread unwritten : List ℕ) 
   -- all that was written to standard output.
   pub data Turns : State → List ℕ → List ℕ → List ℕ → List ℕ → List ℕ → Type 0 where
     over : {s : State} {b l o : List ℕ} → goes_on_value s.phase ≡ false → Turns s b l o [] []
-    turn : {s s' : State} {b b' l l' o o' c i t : List ℕ} → goes_on_value s.phase ≡ true → output_of s.phase ≡ pos 1 → Reads (room_of s.phase true) b c b'
+    turn : {s s' : State} {b b' l l' o o' c i t : List ℕ} → goes_on_value s.phase ≡ true → output_of s.phase ≡ Output → Reads (room_of s.phase true) b c b'
         → GoesOn Out unread unwritten b' l o s (event_of s true (Some (length c))) l' o' s' → Turns s' b' l' o' i t → Turns s b l o (c ++ i) (take s.used o ++ t)
 
   -- ---- what is still to come, by the phase

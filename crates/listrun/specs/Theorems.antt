@@ -3,7 +3,7 @@
 -- Where the catalogue is refused the input is not read (`run_refused`). A turn within a block goes further in it (`goes_further`): no block holds a
 -- program for ever.
 -- Assumes nothing.
-use Rattle.std.specs.Prelude.{ℕ, ◌+◌, ◌-◌, ◌≤◌, ◌<◌, ◌≡◌, refl, true, false, List, [], ◌∷◌, ◌++◌, length, take, drop, pos, Some}
+use Rattle.std.specs.Prelude.{ℕ, ◌+◌, ◌-◌, ◌≤◌, ◌<◌, ◌≡◌, refl, true, false, List, [], ◌∷◌, ◌++◌, length, take, drop, Some}
 use Rattle.std.proofs.Common.{sym, ◌∙◌, ap, subst, true≢false, append_assoc, append-nil, arith, length-take, take-append-drop, drop_of_length-le, take_at, drop-drop}
 use Rattle.std.proofs.Math.Nat.{min-eq_left}
 use Rattle.writer.specs.Promise.{put}
@@ -23,6 +23,7 @@ use Rattle.cataloguerun.specs.Theorems.{ComesTo, ready, refused}
 use Rattle.filter.specs.declared.Phase.{Phase}
 use Rattle.filter.specs.declared.Phase.TheVariants.{Reading, Midway, Closing, Failing, Ended}
 use Rattle.filter.specs.declared.State.{State}
+use Rattle.filter.specs.declared.Stream.TheVariants.{Output}
 use Rattle.filter.specs.Promise.{goes_on_value, output_of, room_of, event_of, event_in, block_size}
 use Rattle.entry.specs.Entry.{longest_entry}
 use Rattle.linetext.specs.Line.{longest_line}
@@ -41,7 +42,7 @@ module _ (m : Names) where
   -- all that was written to standard output.
   pub data Turns : State → List ℕ → List ℕ → List ℕ → List ℕ → List ℕ → Type 0 where
     over : {s : State} {b l o : List ℕ} → goes_on_value s.phase ≡ false → Turns s b l o [] []
-    turn : {s s' : State} {b b' l l' o o' c i t : List ℕ} → goes_on_value s.phase ≡ true → output_of s.phase ≡ pos 1 → Reads (room_of s.phase true) b c b'
+    turn : {s s' : State} {b b' l l' o o' c i t : List ℕ} → goes_on_value s.phase ≡ true → output_of s.phase ≡ Output → Reads (room_of s.phase true) b c b'
         → GoesOn m b' l o s (event_of s true (Some (length c))) l' o' s' → Turns s' b' l' o' i t → Turns s b l o (c ++ i) (take s.used o ++ t)
 
   -- ---- what is still to come, by the phase

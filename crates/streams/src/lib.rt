@@ -5,6 +5,7 @@
 
 ghost use Rattle.std.specs.Prelude.{◌≤◌, length};
 
+use filter::Stream;
 use std::io::{Print, Read, Write};
 
 // One read: how many bytes came, 0 where the input has ended; nothing where it failed.
@@ -27,17 +28,17 @@ pub fn read_full<R: Read>(from: &mut R, buf: &mut [u8]) -> usize
     used
 }
 
-// Whether all of a text was written: to standard error where the output is 2, and else to standard output.
-pub fn write(rt: &HostRuntime, output: i32, text: &[u8]) -> bool {
-    if output == 2 {
-        return rt.stderr().write_all(text).is_ok();
+// Whether all of a text was written.
+pub fn write(rt: &HostRuntime, to: Stream, text: &[u8]) -> bool {
+    match to {
+        Stream::Output => rt.stdout().write_all(text).is_ok(),
+        Stream::Error => rt.stderr().write_all(text).is_ok(),
     }
-    rt.stdout().write_all(text).is_ok()
 }
 
 // Whether all of a text was written to standard output.
 pub fn print(rt: &HostRuntime, text: &[u8]) -> bool {
-    write(rt, 1, text)
+    write(rt, Stream::Output, text)
 }
 
 // Whether the digits of a number were written to standard output.
