@@ -21,10 +21,7 @@ fn list_cut(
 {
     let first = listing::list_block(names, &input[..cut], 0, line, 0, out, 0);
     let second = listing::list_block(names, &input[cut..], 0, line, first.held, out, first.used);
-    match listing::list_last(names, line, second.held, out, second.used) {
-        Ok(size) => size,
-        Err(_) => 0,
-    }
+    listing::list_last(names, line, second.held, out, second.used).unwrap_or(0)
 }
 
 fn is_same(
@@ -59,12 +56,8 @@ fn same_ways(
 }
 
 fn write_header(rt: &HostRuntime, out: &mut [u8]) {
-    match listing::put_header(out, 0) {
-        Ok(size) => {
-            streams::print(rt, front(out, size));
-        }
-        Err(_) => {}
-    }
+    let size = listing::put_header(out, 0).unwrap_or(0);
+    streams::print(rt, front(out, size));
 }
 
 fn write_counts(rt: &HostRuntime, ways: u64, same: u64) {
