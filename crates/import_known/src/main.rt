@@ -17,10 +17,7 @@ const LONGEST: usize = 7;
 // ---- Imports
 
 fn put_header(out: &mut [u8; BLOCK_SIZE]) -> usize {
-    match importing::put_header(out, 0) {
-        Ok(used) => used,
-        Err(_) => 0,
-    }
+    importing::put_header(out, 0).unwrap_or(0)
 }
 
 // A text whole: how many bytes its import has.
@@ -37,10 +34,7 @@ fn import_whole(
 
 // What an import has left of a text; nothing where it is past the end.
 fn rest<'a>(text: &'a [u8], at: usize) -> &'a [u8] {
-    if at < text.len() {
-        return &text[at..];
-    }
-    &text[text.len()..]
+    text.get(at..).unwrap_or(b"")
 }
 
 // After the first of two parts: what it left comes again, in front of the second. Where a refusal has ended the import, nothing comes.
