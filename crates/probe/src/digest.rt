@@ -71,7 +71,7 @@ fn one_day(s: DaySum, calendar: Calendar, step: u32) -> DaySum {
         Err(_) => s,
         Ok(date) => DaySum {
             hash: with_date(s.hash, date),
-            given: std::num::wrapping_add_u32(s.given, 1),
+            given: s.given.wrapping_add(1),
             next: s.next + step as u64,
         },
     }
@@ -166,7 +166,7 @@ fn one_step(t: Walking) -> Walking {
         Ok(date) => Walking {
             walker: m.walker,
             last: date,
-            given: std::num::wrapping_add_u32(t.given, 1),
+            given: t.given.wrapping_add(1),
             hash: with_date(t.hash, date),
         },
     }
@@ -204,8 +204,5 @@ fn told(w: Walker, count: u32, by_days: bool) -> Reply {
 }
 
 pub fn walk(date: Date, count: u32, way: u32, by_days: bool) -> Reply {
-    match walk::walker_of(way, date) {
-        Err(why) => reply::refused(why),
-        Ok(w) => told(w, count, by_days),
-    }
+    walk::walker_of(way, date).map_or_else(reply::refused, |w| told(w, count, by_days))
 }

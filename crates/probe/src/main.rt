@@ -42,10 +42,9 @@ fn reformation(calendar: Calendar) -> Reply {
 }
 
 fn name(answer: Result<Calendar, Refusal>) -> Reply {
-    match answer {
-        Err(why) => reply::refused(why),
-        Ok(calendar) => reply::calendar(reply::none(), calendar),
-    }
+    answer.map_or_else(reply::refused, |calendar| {
+        reply::calendar(reply::none(), calendar)
+    })
 }
 
 // ---- Queries about a date
@@ -67,17 +66,15 @@ fn zero(date: Date) -> Reply {
 fn text_reply(text: [u8; 14], n: usize) -> Reply {
     let mut r = reply::none();
     for b in text.iter().take(n) {
-        r = reply::add(r, reply::BYTE, whole::counted(*b as u32));
+        r = reply::byte(r, *b);
     }
-    reply::add(r, reply::BYTE, 9)
+    reply::byte(r, b'\t')
 }
 
 fn written(date: Date) -> Reply {
     let mut text = [0u8; 14];
-    match dateparse::write_date(date, &mut text) {
-        Err(why) => reply::refused(why),
-        Ok(n) => text_reply(text, n),
-    }
+    let size = dateparse::write_date(date, &mut text);
+    size.map_or_else(reply::refused, |n| text_reply(text, n))
 }
 
 // ---- Queries about a month
@@ -91,33 +88,24 @@ fn month(calendar: Calendar, year: i32, month: u32) -> Reply {
 // ---- Queries about seconds
 
 fn time(answer: Result<(i32, u32), Refusal>) -> Reply {
-    match answer {
-        Err(why) => reply::refused(why),
-        Ok((jdn, seconds)) => {
-            let a = reply::number(reply::none(), whole::widened(jdn));
-            reply::count(a, seconds)
-        }
-    }
+    answer.map_or_else(reply::refused, |(jdn, seconds)| {
+        reply::count(reply::number(reply::none(), whole::widened(jdn)), seconds)
+    })
 }
 
 fn unix(answer: Result<(Date, u32), Refusal>) -> Reply {
-    match answer {
-        Err(why) => reply::refused(why),
-        Ok((date, seconds)) => {
-            let a = reply::date(reply::none(), date);
-            reply::count(a, seconds)
-        }
-    }
+    answer.map_or_else(reply::refused, |(date, seconds)| {
+        reply::count(reply::date(reply::none(), date), seconds)
+    })
 }
 
 // ---- The query of a line
 
 // The second calendar of a query stands after its date.
 fn to_calendar(date: Date, line: &[u8], at: usize) -> Reply {
-    match query::calendar_at(line, at) {
-        Err(why) => reply::refused(why),
-        Ok((to, _)) => reply::dated(date.convert_to(to)),
-    }
+    query::calendar_at(line, at).map_or_else(reply::refused, |(to, _)| {
+        reply::dated(date.convert_to(to))
+    })
 }
 
 // `walk` and `view`: the numbers after the date are the steps and the walker.
@@ -143,13 +131,6 @@ fn of_date(line: &[u8], date: Date, at: usize) -> Reply {
         b'g' => genuine(date),
         b'c' => to_calendar(date, line, at),
         _ => reply::date(reply::none(), date),
-    }
-}
-
-fn about_date(line: &[u8], answer: Result<Date, Refusal>, at: usize) -> Reply {
-    match answer {
-        Err(why) => reply::refused(why),
-        Ok(date) => of_date(line, date, at),
     }
 }
 
@@ -197,8 +178,9 @@ fn with_calendar(calendar: Calendar, line: &[u8], from: usize) -> Reply {
     let second = query::byte_at(line, 1);
     if is_about_date(letter, second) {
         let asked = query::date_at(calendar, line, from);
-        let answer = asked.answer;
-        return about_date(line, answer, asked.next);
+        return asked
+            .answer
+            .map_or_else(reply::refused, |date| of_date(line, date, asked.next));
     }
     if letter == b'u' {
         return unix(unixtime::at_unix_time(calendar, query::long_at(line, from)));
@@ -210,10 +192,9 @@ fn with_calendar(calendar: Calendar, line: &[u8], from: usize) -> Reply {
 }
 
 fn of_calendar(line: &[u8], from: usize) -> Reply {
-    match query::calendar_at(line, from) {
-        Err(why) => reply::refused(why),
-        Ok((calendar, next)) => with_calendar(calendar, line, next),
-    }
+    query::calendar_at(line, from).map_or_else(reply::refused, |(calendar, next)| {
+        with_calendar(calendar, line, next)
+    })
 }
 
 // Queries about a day number alone: `wd` and `sec`.
@@ -282,7 +263,7 @@ fn query_of(line: &[u8]) -> &[u8] {
     if query::byte_at(line, 0) == b'+' {
         return query::tail(line, 1);
     }
-    query::front(line, std::num::wrapping_sub_usize(line.len(), 1))
+    query::front(line, line.len().saturating_sub(1))
 }
 
 // The answer to the n bytes of a line, where the last of them ends it.

@@ -1,6 +1,6 @@
 // Writes the fields of an answer into the output from a place on, each with a tab after it, and tells the place after them. What the output
 // has no room for is left out; the program sees that there is room.
-use crate::reply::Reply;
+use crate::reply::{Field, Reply};
 
 fn byte(out: &mut [u8], at: usize, b: u8) -> usize {
     if at < out.len() {
@@ -37,25 +37,18 @@ fn number(out: &mut [u8], at: usize, x: i64) -> usize {
     }
 }
 
-fn letter(x: i64) -> u8 {
-    (whole::magnitude(x) % 256) as u8
-}
-
-fn field(out: &mut [u8], at: usize, kind: u8, x: i64) -> usize {
-    if kind == crate::reply::NUMBER {
-        return number(out, at, x);
+fn field(out: &mut [u8], at: usize, field: Field) -> usize {
+    match field {
+        Field::Number(x) => number(out, at, x),
+        Field::Letter(b) => word(out, at, &[b]),
+        Field::Byte(b) => byte(out, at, b),
     }
-    let end = byte(out, at, letter(x));
-    if kind == crate::reply::LETTER {
-        return byte(out, end, b'\t');
-    }
-    end
 }
 
 pub fn reply(out: &mut [u8], at: usize, r: Reply) -> usize {
     let mut end = at;
-    for (kind, x) in r.kinds.iter().zip(r.values.iter()).take(r.n) {
-        end = field(out, end, *kind, *x);
+    for f in r.fields.iter().take(r.n) {
+        end = field(out, end, *f);
     }
     end
 }

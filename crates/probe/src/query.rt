@@ -17,10 +17,7 @@ pub struct Numbers {
 }
 
 pub fn byte_at(line: &[u8], at: usize) -> u8 {
-    if at < line.len() {
-        return line[at];
-    }
-    0
+    line.get(at).copied().unwrap_or(0)
 }
 
 // The place after the next tab, or the end of the line.
@@ -35,31 +32,19 @@ pub fn after_tab(line: &[u8], from: usize) -> usize {
 
 // The bytes up to a place, and those from a place on.
 pub fn front(line: &[u8], n: usize) -> &[u8] {
-    if n <= line.len() {
-        return &line[0..n];
-    }
-    line
+    line.get(..n).unwrap_or(line)
 }
 
 pub fn tail(line: &[u8], from: usize) -> &[u8] {
-    if from <= line.len() {
-        return &line[from..];
-    }
-    line
+    line.get(from..).unwrap_or(line)
 }
 
 pub fn signed_at(line: &[u8], at: usize) -> i32 {
-    match numbertext::signed_at(line, at) {
-        Ok((x, _)) => x,
-        Err(_) => 0,
-    }
+    numbertext::signed_at(line, at).map_or(0, |(x, _)| x)
 }
 
 pub fn number_at(line: &[u8], at: usize) -> u32 {
-    match numbertext::number_at(line, at) {
-        Ok((n, _)) => n,
-        Err(_) => 0,
-    }
+    numbertext::number_at(line, at).map_or(0, |(n, _)| n)
 }
 
 pub fn numbers_at(line: &[u8], at: usize) -> Numbers {
@@ -172,10 +157,8 @@ fn signed_long(negative: bool, n: u64) -> i64 {
 }
 
 pub fn long_at(line: &[u8], at: usize) -> i64 {
-    if at < line.len() {
-        if line[at] == b'-' {
-            return signed_long(true, magnitude_at(line, at + 1));
-        }
+    if at < line.len() && line[at] == b'-' {
+        return signed_long(true, magnitude_at(line, at + 1));
     }
     signed_long(false, magnitude_at(line, at))
 }

@@ -1,46 +1,44 @@
 // The fields of an answer, as values: functions that hand them on are proved much faster than those that write into a lent buffer.
 use calendar::{Calendar, Date, Refusal, Style};
 
-// The longest answer has 43 fields. A field is a number, or by its kind something else.
+#[derive(Clone, Copy)]
+pub enum Field {
+    Number(i64),
+    Letter(u8),
+    // A byte of a text, with no tab after it.
+    Byte(u8),
+}
+
+// The longest answer has 43 fields.
 #[derive(Clone, Copy)]
 pub struct Reply {
     pub n: usize,
-    pub values: [i64; 48],
-    pub kinds: [u8; 48],
+    pub fields: [Field; 48],
 }
-
-pub const NUMBER: u8 = 0;
-
-pub const LETTER: u8 = 1;
-
-// A byte of a text, with no tab after it.
-pub const BYTE: u8 = 2;
 
 pub fn none() -> Reply {
     Reply {
         n: 0,
-        values: [0; 48],
-        kinds: [0; 48],
+        fields: [Field::Number(0); 48],
     }
 }
 
-pub fn add(reply: Reply, kind: u8, x: i64) -> Reply {
+pub fn add(reply: Reply, field: Field) -> Reply {
     let mut r = reply;
     let n = r.n;
     if n < 48 {
-        r.values[n] = x;
-        r.kinds[n] = kind;
+        r.fields[n] = field;
         r.n = n + 1;
     }
     r
 }
 
 pub fn number(reply: Reply, x: i64) -> Reply {
-    add(reply, NUMBER, x)
+    add(reply, Field::Number(x))
 }
 
 pub fn count(reply: Reply, n: u32) -> Reply {
-    add(reply, NUMBER, whole::counted(n))
+    number(reply, whole::counted(n))
 }
 
 // A place in a line.
@@ -54,7 +52,11 @@ pub fn digest(reply: Reply, h: u64) -> Reply {
 }
 
 pub fn letter(reply: Reply, b: u8) -> Reply {
-    add(reply, LETTER, whole::counted(b as u32))
+    add(reply, Field::Letter(b))
+}
+
+pub fn byte(reply: Reply, b: u8) -> Reply {
+    add(reply, Field::Byte(b))
 }
 
 pub fn unreadable() -> Reply {
@@ -83,34 +85,23 @@ pub fn counted(reply: Reply, answer: Result<u32, Refusal>) -> Reply {
 
 // 1 for yes, 0 for no.
 pub fn bit(yes: bool) -> u32 {
-    if yes {
-        return 1;
-    }
-    0
+    u32::from(yes)
 }
 
 pub fn told(reply: Reply, answer: Result<bool, Refusal>) -> Reply {
-    match answer {
-        Err(why) => refusal(reply, why),
-        Ok(yes) => count(reply, bit(yes)),
-    }
+    counted(reply, answer.map(bit))
 }
 
 // As a bit, and 2 for a refusal.
 fn truth(answer: Result<bool, Refusal>) -> u32 {
-    match answer {
-        Err(_) => 2,
-        Ok(yes) => bit(yes),
-    }
+    answer.map_or(2, bit)
 }
 
 // 1 for the Julian style, 0 for another.
 pub fn julian_bit(date: Date) -> u32 {
-    let own = date.style;
-    match own {
+    match date.style {
         Style::Julian => 1,
-        Style::Gregorian => 0,
-        Style::Swedish => 0,
+        Style::Gregorian | Style::Swedish => 0,
     }
 }
 
@@ -125,20 +116,13 @@ pub fn style_letter(style: Style) -> u8 {
 
 // The same of a genuine record, which has to be what the calls about it say.
 fn style(date: Date) -> u8 {
-    let own = date.style;
-    let letter = style_letter(own);
+    let letter = style_letter(date.style);
     let julian = truth(date.is_julian());
     let gregorian = truth(date.is_gregorian());
-    if letter == b'J' && julian == 1 && gregorian == 0 {
-        return letter;
+    match (letter, julian, gregorian) {
+        (b'J', 1, 0) | (b'G', 0, 1) | (b'S', 0, 0) => letter,
+        _ => b'?',
     }
-    if letter == b'G' && julian == 0 && gregorian == 1 {
-        return letter;
-    }
-    if letter == b'S' && julian == 0 && gregorian == 0 {
-        return letter;
-    }
-    b'?'
 }
 
 pub fn calendar(reply: Reply, calendar: Calendar) -> Reply {

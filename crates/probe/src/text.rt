@@ -8,63 +8,43 @@ use refusals::Refusal;
 // ---- What was read, and the place after it
 
 fn number(answer: Result<(u32, usize), Refusal>) -> Reply {
-    match answer {
-        Err(why) => reply::refused(why),
-        Ok((n, next)) => reply::place(reply::count(reply::none(), n), next),
-    }
+    answer.map_or_else(reply::refused, |(n, next)| {
+        reply::place(reply::count(reply::none(), n), next)
+    })
 }
 
 fn signed(answer: Result<(i32, usize), Refusal>) -> Reply {
-    match answer {
-        Err(why) => reply::refused(why),
-        Ok((x, next)) => { reply::place(reply::number(reply::none(), whole::widened(x)), next) }
-    }
+    answer.map_or_else(reply::refused, |(x, next)| {
+        reply::place(reply::number(reply::none(), whole::widened(x)), next)
+    })
 }
 
 fn dash(answer: Result<usize, Refusal>) -> Reply {
-    match answer {
-        Err(why) => reply::refused(why),
-        Ok(next) => reply::place(reply::none(), next),
-    }
+    answer.map_or_else(reply::refused, |next| reply::place(reply::none(), next))
 }
 
 fn end(answer: Result<(), Refusal>) -> Reply {
-    match answer {
-        Err(why) => reply::refused(why),
-        Ok(()) => reply::letter(reply::none(), b'.'),
-    }
+    answer.map_or_else(reply::refused, |()| reply::letter(reply::none(), b'.'))
 }
 
 // ---- The same by a reader that stands at the place, and where it stands after the read
 
-fn number_then(answer: Result<(u32, usize), Refusal>, at: usize) -> Reply {
-    reply::place(number(answer), at)
-}
-
-fn signed_then(answer: Result<(i32, usize), Refusal>, at: usize) -> Reply {
-    reply::place(signed(answer), at)
-}
-
-fn dash_then(answer: Result<usize, Refusal>, at: usize) -> Reply {
-    reply::place(dash(answer), at)
-}
-
 fn number_by(text: &[u8], at: usize) -> Reply {
     let mut reader = Reader { src: text, at };
-    let answer = reader.number();
-    number_then(answer, reader.at)
+    let told = number(reader.number());
+    reply::place(told, reader.at)
 }
 
 fn signed_by(text: &[u8], at: usize) -> Reply {
     let mut reader = Reader { src: text, at };
-    let answer = reader.signed();
-    signed_then(answer, reader.at)
+    let told = signed(reader.signed());
+    reply::place(told, reader.at)
 }
 
 fn dash_by(text: &[u8], at: usize) -> Reply {
     let mut reader = Reader { src: text, at };
-    let answer = reader.dash();
-    dash_then(answer, reader.at)
+    let told = dash(reader.dash());
+    reply::place(told, reader.at)
 }
 
 fn end_by(text: &[u8], at: usize) -> Result<(), Refusal> {
@@ -88,7 +68,7 @@ fn read(what: u8, text: &[u8], at: usize) -> Reply {
 // A place of 64 bits; a negative one counts back from their end, so that -1 is the greatest.
 fn place_of(x: i32) -> usize {
     let raised = whole::raised64(whole::widened(x));
-    std::num::wrapping_sub_u64(raised, 9_223_372_036_854_775_808) as usize
+    raised.wrapping_sub(9_223_372_036_854_775_808) as usize
 }
 
 pub fn at(line: &[u8], from: usize) -> Reply {
@@ -100,27 +80,22 @@ pub fn at(line: &[u8], from: usize) -> Reply {
 
 // ---- A whole text
 
-fn said(answer: Result<Text, Refusal>) -> Reply {
-    match answer {
-        Err(why) => reply::refused(why),
-        Ok(
-            Text::Ordinal {
-                year,
-                ordinal,
-                place,
-            },
-        ) => {
+fn said(text: Text) -> Reply {
+    match text {
+        Text::Ordinal {
+            year,
+            ordinal,
+            place,
+        } => {
             let a = reply::number(reply::none(), whole::widened(year));
             reply::place(reply::count(a, ordinal), place)
         }
-        Ok(
-            Text::Ymd {
-                year,
-                month,
-                day,
-                place,
-            },
-        ) => {
+        Text::Ymd {
+            year,
+            month,
+            day,
+            place,
+        } => {
             let a = reply::number(reply::none(), whole::widened(year));
             let b = reply::count(reply::count(a, month), day);
             reply::place(b, place)
@@ -129,5 +104,5 @@ fn said(answer: Result<Text, Refusal>) -> Reply {
 }
 
 pub fn whole_text(line: &[u8], from: usize) -> Reply {
-    said(datetext::read_date(query::tail(line, from)))
+    datetext::read_date(query::tail(line, from)).map_or_else(reply::refused, said)
 }

@@ -56,8 +56,8 @@ pub fn walker_of(way: u32, date: Date) -> Result<Walker, Refusal> {
     }
     let kind = kind_of(way % 4);
     Ok(Walker {
-        kind: kind,
-        date: date,
+        kind,
+        date,
         ended: 7 < way,
     })
 }
@@ -66,19 +66,14 @@ pub fn walker_of(way: u32, date: Date) -> Result<Walker, Refusal> {
 
 // What a walker is: its number, the calendar and the numbers of its record, and whether it is ended.
 fn held(reply: Reply, w: Walker) -> Reply {
-    let kind = w.kind;
     let date = w.date;
-    let calendar = date.calendar;
-    let a = reply::calendar(reply::count(reply, way_of(kind)), calendar);
-    let style = date.style;
-    let b = reply::letter(reply::fields(a, date), reply::style_letter(style));
+    let a = reply::calendar(reply::count(reply, way_of(w.kind)), date.calendar);
+    let b = reply::letter(reply::fields(a, date), reply::style_letter(date.style));
     reply::count(b, reply::bit(w.ended))
 }
 
 fn taken(reply: Reply, m: Moved) -> Reply {
-    let answer = m.answer;
-    let after = m.walker;
-    held(reply::dated_on(reply, answer), after)
+    held(reply::dated_on(reply, m.answer), m.walker)
 }
 
 // A walker, its next step by value, and the same step lent.
