@@ -8,7 +8,7 @@
 use benchsum::{added, fields, plus};
 use calendar::{Calendar, Date, Style};
 
-// ---- The question, which stands 256 times in memory: raised year, month and day at 4 i
+// ---- The question
 
 #[derive(Clone, Copy)]
 struct Question {
@@ -17,32 +17,20 @@ struct Question {
     day: u32,
 }
 
-fn question_at(words: &[u32; 1024], k: u64) -> Question {
-    let i = (k % 256) as usize;
-    Question {
-        year: whole::lowered(words[4 * i]),
-        month: words[4 * i + 1],
-        day: words[4 * i + 2],
-    }
-}
+// Questions that stand in memory, so that each turn of a loop reads its own.
+const QUESTIONS: usize = 256;
 
-fn prepared(q: Question) -> [u32; 1024] {
-    let mut words = [0u32; 1024];
-    for i in 0..256 {
-        words[4 * i] = whole::raised(q.year);
-        words[4 * i + 1] = q.month;
-        words[4 * i + 2] = q.day;
-    }
-    words
+fn question_at(questions: &[Question; QUESTIONS], k: u64) -> Question {
+    questions[(k % 256) as usize]
 }
 
 // ---- The loops that are counted
 
 // The sum alone, of a record that is made of the question.
-fn no_calls(calendar: Calendar, words: &[u32; 1024], calls: u64) -> u64 {
+fn no_calls(calendar: Calendar, questions: &[Question; QUESTIONS], calls: u64) -> u64 {
     let mut sum: u64 = 0;
     for k in 0..calls {
-        let q = question_at(words, k);
+        let q = question_at(questions, k);
         let d = Date {
             calendar,
             style: Style::Julian,
@@ -58,31 +46,31 @@ fn no_calls(calendar: Calendar, words: &[u32; 1024], calls: u64) -> u64 {
     sum
 }
 
-fn jdn_calls(calendar: Calendar, words: &[u32; 1024], calls: u64) -> u64 {
-    let q = question_at(words, 0);
+fn jdn_calls(calendar: Calendar, questions: &[Question; QUESTIONS], calls: u64) -> u64 {
+    let q = question_at(questions, 0);
     let mut sum: u64 = added(0, calendar.at_jdn(q.year));
     for k in 0..calls {
-        let q = question_at(words, k);
+        let q = question_at(questions, k);
         sum = added(sum, calendar.at_jdn(q.year));
     }
     sum
 }
 
-fn ymd_calls(calendar: Calendar, words: &[u32; 1024], calls: u64) -> u64 {
-    let q = question_at(words, 0);
+fn ymd_calls(calendar: Calendar, questions: &[Question; QUESTIONS], calls: u64) -> u64 {
+    let q = question_at(questions, 0);
     let mut sum: u64 = added(0, calendar.at_ymd(q.year, q.month, q.day));
     for k in 0..calls {
-        let q = question_at(words, k);
+        let q = question_at(questions, k);
         sum = added(sum, calendar.at_ymd(q.year, q.month, q.day));
     }
     sum
 }
 
-fn ordinal_calls(calendar: Calendar, words: &[u32; 1024], calls: u64) -> u64 {
-    let q = question_at(words, 0);
+fn ordinal_calls(calendar: Calendar, questions: &[Question; QUESTIONS], calls: u64) -> u64 {
+    let q = question_at(questions, 0);
     let mut sum: u64 = added(0, calendar.at_ordinal_date(q.year, q.day));
     for k in 0..calls {
-        let q = question_at(words, k);
+        let q = question_at(questions, k);
         sum = added(sum, calendar.at_ordinal_date(q.year, q.day));
     }
     sum
@@ -97,12 +85,12 @@ fn calendar_of(letter: u8) -> Calendar {
     }
 }
 
-fn run(call: u8, calendar: Calendar, words: &[u32; 1024], calls: u64) -> u64 {
+fn run(call: u8, calendar: Calendar, questions: &[Question; QUESTIONS], calls: u64) -> u64 {
     match call {
-        b'j' => jdn_calls(calendar, words, calls),
-        b'y' => ymd_calls(calendar, words, calls),
-        b'o' => ordinal_calls(calendar, words, calls),
-        _ => no_calls(calendar, words, calls),
+        b'j' => jdn_calls(calendar, questions, calls),
+        b'y' => ymd_calls(calendar, questions, calls),
+        b'o' => ordinal_calls(calendar, questions, calls),
+        _ => no_calls(calendar, questions, calls),
     }
 }
 
@@ -113,14 +101,15 @@ struct Part {
     next: usize,
 }
 
+// Both are 0 where there is none.
 fn part_at(order: &[u8], at: usize) -> Part {
-    match numbertext::number_at(order, at) {
-        Ok((n, end)) => Part {
-            value: n,
-            next: std::num::wrapping_add_usize(end, 1),
+    numbertext::number_at(order, at).map_or(
+        Part { value: 0, next: 0 },
+        |(value, end)| Part {
+            value,
+            next: end.wrapping_add(1),
         },
-        Err(_) => Part { value: 0, next: 0 },
-    }
+    )
 }
 
 fn obey(order: &[u8; 32]) -> u64 {
@@ -128,13 +117,14 @@ fn obey(order: &[u8; 32]) -> u64 {
     let month = part_at(order, year.next);
     let day = part_at(order, month.next);
     let rounds = part_at(order, day.next);
-    let words = prepared(Question {
-        year: whole::lowered(std::num::wrapping_add_u32(year.value, 2_147_483_648)),
+    let question = Question {
+        year: whole::lowered(year.value.wrapping_add(2_147_483_648)),
         month: month.value,
         day: day.value,
-    });
-    let calls = 256 * rounds.value as u64;
-    run(order[0], calendar_of(order[1]), &words, calls)
+    };
+    let questions = [question; QUESTIONS];
+    let calls = 256 * u64::from(rounds.value);
+    run(order[0], calendar_of(order[1]), &questions, calls)
 }
 
 fn main(rt: HostRuntime) {
