@@ -20,12 +20,6 @@ use Rattle.explaining.specs.Promise.{longest_paragraph, place_of}
 use Rattle.explaining.specs.Laws.{Is}
 use Rattle.explaining.specs.Paragraph.{Unnamed, ByEntry, Explained, Paragraph}
 
--- a line that is not too long: its name ends at e, and its text begins at k
-pub record Fits (l : List ℕ) (e k : ℕ) : Type 0 where
-  pub short : length l ≤ longest_entry
-  pub name_inside : e ≤ length l
-  pub text_inside : k ≤ length l
-
 -- ---- the place of a reason lies in its text, or just past it
 on_day_place : {t : Timeline} {c : Calendar} {y n : ℤ} {r : Reason} → OnDay t c y n r → place_of r ≤ 513
 on_day_place (OnDay.accepted f p) = omega arith

@@ -1,6 +1,6 @@
 // What could have stood at a place, in words. Each function writes from `at` on, where it has room, and answers the offset after what it wrote.
 
-ghost use Rattle.std.specs.Prelude.{◌≡◌, ◌||◌, ◌+◌, ◌≤◌, length};
+ghost use Rattle.std.specs.Prelude.{◌+◌, ◌≤◌, length};
 ghost use Rattle.linetext.specs.Laws.{Text};
 ghost use Rattle.explaining.specs.Wording.{digit_words, further, choices};
 ghost use Rattle.explaining.specs.Laws.{Is};
@@ -55,12 +55,6 @@ fn put_further(out: &mut [u8], at: usize, named: bool, holds: bool, word: &[u8])
     at
 }
 
-fn either(a: bool, b: bool) -> bool
-    ensures { result ≡ a || b }
-{
-    if a { true } else { b }
-}
-
 // All of them.
 pub fn put_choices(out: &mut [u8], at: usize, e: Expected) -> usize
     requires { at + 39 ≤ length out.old }
@@ -69,7 +63,7 @@ pub fn put_choices(out: &mut [u8], at: usize, e: Expected) -> usize
     let first = put_digits(out, at, e.digits);
     let digits = 0 < e.digits;
     let second = put_further(out, first, digits, e.dash, &DASH);
-    let signs = either(digits, e.dash);
+    let signs = digits || e.dash;
     let third = put_further(out, second, signs, e.plus, &PLUS);
-    put_further(out, third, either(signs, e.plus), e.ends, &THE_END)
+    put_further(out, third, signs || e.plus, e.ends, &THE_END)
 }

@@ -27,13 +27,10 @@ pub fn put_text(out: &mut [u8], at: usize, text: &[u8]) -> usize
 fn shown_byte(b: u8) -> u8
     ensures { result ≡ shown_byte_value b }
 {
-    if b < 32 {
-        return b'?';
+    match b {
+        b' '..=b'~' => b,
+        _ => b'?',
     }
-    if 126 < b {
-        return b'?';
-    }
-    b
 }
 
 // Bytes, with a `?` for each that is no letter, sign or space of ASCII.

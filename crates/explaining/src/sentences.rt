@@ -1,11 +1,11 @@
 // The paragraph of each reason. Each function writes from `at` on, where it has room, and answers the offset after what it wrote.
 
-ghost use Rattle.std.specs.Prelude.{[], ◌++◌, ◌+◌, ◌≤◌, length};
+ghost use Rattle.std.specs.Prelude.{◌≡◌, [], ◌++◌, ◌+◌, ◌≤◌, length};
 ghost use Rattle.whole.specs.Text.{bytes};
 ghost use Rattle.linetext.specs.Laws.{Text};
 ghost use Rattle.reasons.specs.declared.Reason.TheVariants.{Accepted, MadeUp, Faulty, Missing, Skipped, OffYear, Outside};
 ghost use Rattle.explaining.specs.Patterns.{Filled, cost};
-ghost use Rattle.explaining.specs.Wording.{accepted_pattern, range_pattern, other_fault_pattern, fault_pattern, picture, fault_end, Says, unknown_pattern, long_line};
+ghost use Rattle.explaining.specs.Wording.{accepted_pattern, fault_pattern, picture, fault_end, Says, unknown_pattern, long_line};
 ghost use Rattle.explaining.specs.Promise.{longest_paragraph, Room, place_of};
 ghost use Rattle.explaining.specs.Laws.{Is};
 
@@ -40,50 +40,20 @@ fn say(
 
 // ---- A date
 
-const JULIAN_LEAP: [u8; 87] =
-    *b"~ in @ is #-#-#, day #. The Julian rule applied, and # is a leap year under that rule.\n";
-
-const JULIAN: [u8; 88] =
-    *b"~ in @ is #-#-#, day #. The Julian rule applied, and # is no leap year under that rule.\n";
-
-const GREGORIAN_LEAP: [u8; 90] =
-    *b"~ in @ is #-#-#, day #. The Gregorian rule applied, and # is a leap year under that rule.\n";
-
-const GREGORIAN: [u8; 91] =
-    *b"~ in @ is #-#-#, day #. The Gregorian rule applied, and # is no leap year under that rule.\n";
-
 // By the rule that applied, and by whether the year is leap under it.
-fn put_rule(
-    out: &mut [u8],
-    at: usize,
-    name: &[u8],
-    text: &[u8],
-    style: Style,
-    leap: bool,
-    numbers: &[i64],
-) -> usize
-    requires { Room out.old at name.now text.now }
-    ensures { Text (Filled name.now text.now (accepted_pattern style leap) numbers.now) 2048 out.old at out.new result }
+#[tactic(auto, unfolding(crate::specs::Wording::accepted_pattern, crate::specs::Patterns::cost, whole::specs::Text::bytes))]
+fn accepted_words(style: Style, leap: bool) -> &'static [u8]
+    ensures { (result.now ≡ accepted_pattern style leap) × (cost 512 512 result.now ≤ 2048) }
 {
-    match style {
-        Style::Julian => {
-            if leap {
-                return say(out, at, &JULIAN_LEAP, numbers, name, text);
-            }
-            say(out, at, &JULIAN, numbers, name, text)
-        }
-        Style::Gregorian => {
-            if leap {
-                return say(out, at, &GREGORIAN_LEAP, numbers, name, text);
-            }
-            say(out, at, &GREGORIAN, numbers, name, text)
-        }
-        Style::Swedish => {
-            if leap {
-                return say(out, at, &JULIAN_LEAP, numbers, name, text);
-            }
-            say(out, at, &JULIAN, numbers, name, text)
-        }
+    match (style, leap) {
+        (Style::Julian | Style::Swedish, true) =>
+            b"~ in @ is #-#-#, day #. The Julian rule applied, and # is a leap year under that rule.\n",
+        (Style::Julian | Style::Swedish, false) =>
+            b"~ in @ is #-#-#, day #. The Julian rule applied, and # is no leap year under that rule.\n",
+        (Style::Gregorian, true) =>
+            b"~ in @ is #-#-#, day #. The Gregorian rule applied, and # is a leap year under that rule.\n",
+        (Style::Gregorian, false) =>
+            b"~ in @ is #-#-#, day #. The Gregorian rule applied, and # is no leap year under that rule.\n",
     }
 }
 
@@ -103,8 +73,14 @@ fn put_accepted(
     let day = whole::counted(date.day);
     let jdn = whole::widened(date.jdn);
     let numbers = [year, month, day, jdn, year];
-    let style = date.style;
-    put_rule(out, at, name, text, style, leap, &numbers)
+    say(
+        out,
+        at,
+        accepted_words(date.style, leap),
+        &numbers,
+        name,
+        text,
+    )
 }
 
 // ---- A calendar that was made up
@@ -234,98 +210,27 @@ fn put_outside(
 
 // ---- A text that is no date text
 
-const YEAR_RANGE: [u8; 85] =
-    *b"\"~\" is no date in @: the year leaves its range, -2147483648 to 2147483647, at place #";
-
-const NUMBER_RANGE: [u8; 77] =
-    *b"\"~\" is no date in @: the number leaves its range, 0 to 4294967295, at place #";
-
-// A number that leaves its range.
-fn put_range(
-    out: &mut [u8],
-    at: usize,
-    name: &[u8],
-    text: &[u8],
-    in_year: bool,
-    numbers: &[i64],
-) -> usize
-    requires { Room out.old at name.now text.now }
-    ensures { Text (Filled name.now text.now (range_pattern in_year) numbers.now) 2048 out.old at out.new result }
+// By the number of the refusal, and by whether the fault is one of the year.
+#[tactic(auto, unfolding(crate::specs::Wording::fault_pattern, crate::specs::Wording::other_fault_pattern, crate::specs::Wording::range_pattern, crate::specs::Patterns::cost, whole::specs::Text::bytes))]
+fn fault_words(number: u32, in_year: bool) -> &'static [u8]
+    ensures { (result.now ≡ fault_pattern number in_year) × (cost 512 512 result.now ≤ 2048) }
 {
-    if in_year {
-        return say(out, at, &YEAR_RANGE, numbers, name, text);
+    match number {
+        3 => b"\"~\" is no date in @: the month at place # is #, and a month is 1 to 12",
+        8 => b"\"~\" is no date in @: it ends at place #, where a number has to stand",
+        9 => b"\"~\" is no date in @: a number has to stand at place #",
+        10 => b"\"~\" is no date in @: a digit has to follow the sign, at place #",
+        11 | 28 => {
+            if in_year {
+                b"\"~\" is no date in @: the year leaves its range, -2147483648 to 2147483647, at place #"
+            } else {
+                b"\"~\" is no date in @: the number leaves its range, 0 to 4294967295, at place #"
+            }
+        }
+        12 => b"\"~\" is no date in @: no \"-\" stands at place #",
+        13 => b"\"~\" is no date in @: it ends after the year, at place #",
+        _ => b"\"~\" is no date in @: it goes on after the day, at place #",
     }
-    say(out, at, &NUMBER_RANGE, numbers, name, text)
-}
-
-const NO_DASH: [u8; 45] = *b"\"~\" is no date in @: no \"-\" stands at place #";
-
-const YEAR_ALONE: [u8; 55] = *b"\"~\" is no date in @: it ends after the year, at place #";
-
-const GOES_ON: [u8; 57] = *b"\"~\" is no date in @: it goes on after the day, at place #";
-
-fn put_other_fault(
-    out: &mut [u8],
-    at: usize,
-    name: &[u8],
-    text: &[u8],
-    number: u32,
-    in_year: bool,
-    numbers: &[i64],
-) -> usize
-    requires { Room out.old at name.now text.now }
-    ensures { Text (Filled name.now text.now (other_fault_pattern number in_year) numbers.now) 2048 out.old at out.new result }
-{
-    if number == 11 {
-        return put_range(out, at, name, text, in_year, numbers);
-    }
-    if number == 28 {
-        return put_range(out, at, name, text, in_year, numbers);
-    }
-    if number == 12 {
-        return say(out, at, &NO_DASH, numbers, name, text);
-    }
-    if number == 13 {
-        return say(out, at, &YEAR_ALONE, numbers, name, text);
-    }
-    say(out, at, &GOES_ON, numbers, name, text)
-}
-
-const MONTH: [u8; 70] =
-    *b"\"~\" is no date in @: the month at place # is #, and a month is 1 to 12";
-
-const ENDS: [u8; 68] = *b"\"~\" is no date in @: it ends at place #, where a number has to stand";
-
-const NUMBER: [u8; 53] = *b"\"~\" is no date in @: a number has to stand at place #";
-
-const SIGN: [u8; 63] = *b"\"~\" is no date in @: a digit has to follow the sign, at place #";
-
-// By the number of the refusal.
-fn put_fault(
-    out: &mut [u8],
-    at: usize,
-    name: &[u8],
-    text: &[u8],
-    number: u32,
-    in_year: bool,
-    numbers: &[i64],
-) -> usize
-    requires { Room out.old at name.now text.now }
-    ensures { Text (Filled name.now text.now (fault_pattern number in_year) numbers.now) 2048 out.old at out.new result }
-{
-    if number == 3 {
-        return say(out, at, &MONTH, numbers, name, text);
-    }
-    if number == 8 {
-        return say(out, at, &ENDS, numbers, name, text);
-    }
-    if number == 9 {
-        return say(out, at, &NUMBER, numbers, name, text);
-    }
-    if number == 10 {
-        return say(out, at, &SIGN, numbers, name, text);
-    }
-    put_other_fault(out, at, name, text, number, in_year, numbers)
 }
 
 const COULD_STAND: [u8; 20] = *b"; there could stand ";
@@ -375,7 +280,8 @@ fn put_faulty(
     ensures { Text (Says name.now text.now (Faulty why in_year place expected)) longest_paragraph out.old at out.new result }
 {
     let numbers = [whole::counted(place as u32), why.value];
-    let next = put_fault(out, at, name, text, why.number, in_year, &numbers);
+    let pattern = fault_words(why.number, in_year);
+    let next = say(out, at, pattern, &numbers, name, text);
     put_end(out, next, text, why.number, place, expected)
 }
 

@@ -1,6 +1,8 @@
 -- `explaining::put_paragraph` meets its promise.
 use native.Mathlib.Omega.{arith}
 use lib.ListN.{length-drop}
+use Rattle.std.proofs.lemmas.List.{take_rest}
+use lib.Seq.{length-take-le}
 use Rattle.explaining.specs.LineLaws.{place_inside, long_paragraph, unnamed_paragraph, reason_paragraph}
 use borrow.Author.Rules.{rules}
 use Rattle.explaining.proofs.put_paragraph.Goals as goal
@@ -8,13 +10,23 @@ use Rattle.explaining.proofs.put_paragraph.Goals as goal
 pub returns-then-line-gt-LONGEST_ENTRY : goal.returns-then-line-gt-LONGEST_ENTRY
 returns-then-line-gt-LONGEST_ENTRY c = long_paragraph c.if-line-gt-LONGEST_ENTRY.true c.put_long.ensures
 
+pub put_unnamed-requires : goal.put_unnamed-requires
+put_unnamed-requires c = (omega (arith, length-take-le c.parts_of-parts.result.name_end c.args.line.now c.parts_of-parts.ensures.name_inside, c.parts_of-parts.ensures.name_inside, c.if-line-gt-LONGEST_ENTRY.false), omega (arith, length-drop c.parts_of-parts.result.text_from c.args.line.now, c.if-line-gt-LONGEST_ENTRY.false))
+
 pub put_reason-requires : goal.put_reason-requires
-put_reason-requires c =
-    let p = c.parts_of-parts.ensures in
-    (record { short = search rules; name_inside = p.name_inside; text_inside = p.text_inside }, place_inside c.explained_from-reason.ensures (omega (arith, length-drop c.parts_of-parts.result.text_from c.args.line.now, c.if-line-gt-LONGEST_ENTRY.false)))
+put_reason-requires c = (
+  record {
+    room = search rules;
+    name_short = omega (arith, length-take-le c.parts_of-parts.result.name_end c.args.line.now c.parts_of-parts.ensures.name_inside, c.parts_of-parts.ensures.name_inside, c.if-line-gt-LONGEST_ENTRY.false);
+    text_short = omega (arith, length-drop c.parts_of-parts.result.text_from c.args.line.now, c.if-line-gt-LONGEST_ENTRY.false);
+  },
+  place_inside (rw (take_rest c.args.line.now c.parts_of-parts.result.text_from) at c.explain-reason.ensures) (omega (arith, length-drop c.parts_of-parts.result.text_from c.args.line.now, c.if-line-gt-LONGEST_ENTRY.false)),
+)
 
 pub returns-in-Err : goal.returns-in-Err
-returns-in-Err c = unnamed_paragraph c.in-Err.why (search rules) c.parts_of-parts.ensures c.in-Err.ensures c.put_unnamed.ensures
+returns-in-Err c = unnamed_paragraph c.in-Err.why (search rules) c.parts_of-parts.ensures c.in-Err.ensures (rw (take_rest c.args.line.now c.parts_of-parts.result.text_from) at c.put_unnamed.ensures)
 
 pub returns-in-Ok : goal.returns-in-Ok
-returns-in-Ok c = reason_paragraph (search rules) c.parts_of-parts.ensures c.in-Ok.ensures c.explained_from-reason.ensures c.put_reason.ensures
+returns-in-Ok c =
+    let rest = take_rest c.args.line.now c.parts_of-parts.result.text_from in
+    reason_paragraph (search rules) c.parts_of-parts.ensures c.in-Ok.ensures (rw rest at c.explain-reason.ensures) (rw rest at c.put_reason.ensures)

@@ -8,4 +8,4 @@ use mir.Syntax.{w32}
 use Rattle.explaining.proofs.sentences.put_accepted.Goals as goal
 
 pub returns : goal.returns
-returns c = says_alone (Accepted _ _) refl (numbers_as (also (held c.widened-year.type_inv (c.widened-year.ensures ∙ to_z-of_z {w = w32} {z = c.args.date.year} (search rules))) (also (held c.counted-month.type_inv c.counted-month.ensures) (also (held c.counted-day.type_inv c.counted-day.ensures) (also (held c.widened-jdn.type_inv (c.widened-jdn.ensures ∙ to_z-of_z {w = w32} {z = c.args.date.jdn} (search rules))) (also (held c.widened-year.type_inv (c.widened-year.ensures ∙ to_z-of_z {w = w32} {z = c.args.date.year} (search rules))) refl))))) c.put_rule.ensures)
+returns c = says_alone (Accepted _ _) refl (numbers_as (also (held c.widened-year.type_inv (c.widened-year.ensures ∙ to_z-of_z {w = w32} {z = c.args.date.year} (search rules))) (also (held c.counted-month.type_inv c.counted-month.ensures) (also (held c.counted-day.type_inv c.counted-day.ensures) (also (held c.widened-jdn.type_inv (c.widened-jdn.ensures ∙ to_z-of_z {w = w32} {z = c.args.date.jdn} (search rules))) (also (held c.widened-year.type_inv (c.widened-year.ensures ∙ to_z-of_z {w = w32} {z = c.args.date.year} (search rules))) refl))))) (rw c.accepted_words.ensures.0 at c.say.ensures))
