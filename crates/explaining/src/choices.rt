@@ -8,20 +8,6 @@ ghost use Rattle.explaining.specs.Laws.{Is};
 use crate::fill;
 use expected::Expected;
 
-const ZERO: [u8; 11] = *b"the digit 0";
-
-const UP_TO: [u8; 13] = *b"a digit 0 to ";
-
-const DIGIT: [u8; 7] = *b"a digit";
-
-const OR: [u8; 4] = *b" or ";
-
-const DASH: [u8; 3] = *b"\"-\"";
-
-const PLUS: [u8; 3] = *b"\"+\"";
-
-const THE_END: [u8; 7] = *b"the end";
-
 // The first so many digits.
 fn put_digits(out: &mut [u8], at: usize, digits: u32) -> usize
     requires { at + 14 ≤ length out.old }
@@ -31,13 +17,13 @@ fn put_digits(out: &mut [u8], at: usize, digits: u32) -> usize
         return at;
     }
     if digits == 1 {
-        return fill::put_text(out, at, &ZERO);
+        return fill::put_text(out, at, b"the digit 0");
     }
     if digits < 10 {
-        let last = fill::put_text(out, at, &UP_TO);
+        let last = fill::put_text(out, at, b"a digit 0 to ");
         return fill::put_byte(out, last, (47 + digits) as u8);
     }
-    fill::put_text(out, at, &DIGIT)
+    fill::put_text(out, at, b"a digit")
 }
 
 // A further choice, where it holds.
@@ -47,7 +33,7 @@ fn put_further(out: &mut [u8], at: usize, named: bool, holds: bool, word: &[u8])
 {
     if holds {
         if named {
-            let next = fill::put_text(out, at, &OR);
+            let next = fill::put_text(out, at, b" or ");
             return fill::put_text(out, next, word);
         }
         return fill::put_text(out, at, word);
@@ -62,8 +48,8 @@ pub fn put_choices(out: &mut [u8], at: usize, e: Expected) -> usize
 {
     let first = put_digits(out, at, e.digits);
     let digits = 0 < e.digits;
-    let second = put_further(out, first, digits, e.dash, &DASH);
+    let second = put_further(out, first, digits, e.dash, b"\"-\"");
     let signs = digits || e.dash;
-    let third = put_further(out, second, signs, e.plus, &PLUS);
-    put_further(out, third, signs || e.plus, e.ends, &THE_END)
+    let third = put_further(out, second, signs, e.plus, b"\"+\"");
+    put_further(out, third, signs || e.plus, e.ends, b"the end")
 }

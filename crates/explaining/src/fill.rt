@@ -66,20 +66,21 @@ fn put_piece(
     requires { at + cost_of (length name.now) (length text.now) b ≤ length out.old }
     ensures { Text (Piece name.now text.now (drop used numbers.now) b) (cost_of (length name.now) (length text.now) b) out.old at out.new result }
 {
-    if b == b'#' {
-        if used < numbers.len() {
-            return put_number(out, at, numbers[used]);
+    match b {
+        b'#' => {
+            if used < numbers.len() {
+                put_number(out, at, numbers[used])
+            } else {
+                at
+            }
         }
-        return at;
+        b'@' => put_shown(out, at, name),
+        b'~' => put_shown(out, at, text),
+        _ => {
+            out[at] = b;
+            at + 1
+        }
     }
-    if b == b'@' {
-        return put_shown(out, at, name);
-    }
-    if b == b'~' {
-        return put_shown(out, at, text);
-    }
-    out[at] = b;
-    at + 1
 }
 
 fn used_after(b: u8, used: usize) -> usize

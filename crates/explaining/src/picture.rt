@@ -8,8 +8,6 @@ ghost use Rattle.explaining.specs.Laws.{Is};
 
 use crate::fill;
 
-const MARK: [u8; 2] = *b"^\n";
-
 fn put_spaces(out: &mut [u8], at: usize, n: usize) -> usize
     requires { at + n ≤ length out.old }
     ensures { PutText out.old at (spaces n) out.new result }
@@ -28,5 +26,5 @@ pub fn put_picture(out: &mut [u8], at: usize, text: &[u8], place: usize) -> usiz
     let second = fill::put_shown(out, first, text);
     let third = fill::put_byte(out, second, b'\n');
     let fourth = put_spaces(out, third, 4 + place);
-    fill::put_text(out, fourth, &MARK)
+    fill::put_text(out, fourth, b"^\n")
 }

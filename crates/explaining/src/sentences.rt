@@ -19,10 +19,6 @@ use refusals::Refusal;
 // A paragraph has room in so many bytes, where name and text have at most 512 each.
 pub const LONGEST_PARAGRAPH: usize = 4096;
 
-const NO_NUMBERS: [i64; 0] = [];
-
-const NO_TEXT: [u8; 0] = [];
-
 // One sentence.
 fn say(
     out: &mut [u8],
@@ -85,23 +81,21 @@ fn put_accepted(
 
 // ---- A calendar that was made up
 
-const MADE_UP: [u8; 44] = *b"~ was not read: the calendar @ was made up.\n";
-
 fn put_made_up(out: &mut [u8], at: usize, name: &[u8], text: &[u8]) -> usize
     requires { Room out.old at name.now text.now }
     ensures { Text (Says name.now text.now (MadeUp)) longest_paragraph out.old at out.new result }
 {
-    say(out, at, &MADE_UP, &NO_NUMBERS, name, text)
+    say(
+        out,
+        at,
+        b"~ was not read: the calendar @ was made up.\n",
+        &[],
+        name,
+        text,
+    )
 }
 
 // ---- A date that the calendar does not have
-
-const NO_DAYS: [u8; 52] = *b"~ is no date in @: the month #-# has no days there.\n";
-
-const ONE_RUN: [u8; 60] = *b"~ is no date in @: the month #-# has the days # to # there.\n";
-
-const TWO_RUNS: [u8; 71] =
-    *b"~ is no date in @: the month #-# has the days # to # and # to # there.\n";
 
 fn put_missing(
     out: &mut [u8],
@@ -121,11 +115,25 @@ fn put_missing(
     match days {
         Runs::Nothing => {
             let numbers = [y, m];
-            say(out, at, &NO_DAYS, &numbers, name, text)
+            say(
+                out,
+                at,
+                b"~ is no date in @: the month #-# has no days there.\n",
+                &numbers,
+                name,
+                text,
+            )
         }
         Runs::One(a) => {
             let numbers = [y, m, whole::counted(a.first), whole::counted(a.last)];
-            say(out, at, &ONE_RUN, &numbers, name, text)
+            say(
+                out,
+                at,
+                b"~ is no date in @: the month #-# has the days # to # there.\n",
+                &numbers,
+                name,
+                text,
+            )
         }
         Runs::Two(a, b) => {
             let numbers = [
@@ -136,12 +144,17 @@ fn put_missing(
                 whole::counted(b.first),
                 whole::counted(b.last),
             ];
-            say(out, at, &TWO_RUNS, &numbers, name, text)
+            say(
+                out,
+                at,
+                b"~ is no date in @: the month #-# has the days # to # and # to # there.\n",
+                &numbers,
+                name,
+                text,
+            )
         }
     }
 }
-
-const SKIPPED: [u8; 65] = *b"~ was skipped in @: #-#-# (day #) was followed by #-#-# (day #).\n";
 
 fn put_skipped(
     out: &mut [u8],
@@ -165,11 +178,15 @@ fn put_skipped(
         whole::counted(after.day),
         whole::widened(after.jdn),
     ];
-    say(out, at, &SKIPPED, &numbers, name, text)
+    say(
+        out,
+        at,
+        b"~ was skipped in @: #-#-# (day #) was followed by #-#-# (day #).\n",
+        &numbers,
+        name,
+        text,
+    )
 }
-
-const OFF_YEAR: [u8; 100] =
-    *b"~ is no date in @: a single number after the year counts its days, and the year # has # days there.\n";
 
 fn put_off_year(
     out: &mut [u8],
@@ -184,12 +201,15 @@ fn put_off_year(
     ensures { Text (Says name.now text.now (OffYear why year length)) longest_paragraph out.old at out.new result }
 {
     let numbers = [whole::widened(year), whole::counted(length)];
-    say(out, at, &OFF_YEAR, &numbers, name, text)
+    say(
+        out,
+        at,
+        b"~ is no date in @: a single number after the year counts its days, and the year # has # days there.\n",
+        &numbers,
+        name,
+        text,
+    )
 }
-
-const TOO_LATE: [u8; 62] = *b"~ is too late in @: its day number would be above 2147483647.\n";
-
-const TOO_EARLY: [u8; 64] = *b"~ is too early in @: its day number would be below -2147483648.\n";
 
 fn put_outside(
     out: &mut [u8],
@@ -203,9 +223,23 @@ fn put_outside(
     ensures { Text (Says name.now text.now (Outside why above)) longest_paragraph out.old at out.new result }
 {
     if above {
-        return say(out, at, &TOO_LATE, &NO_NUMBERS, name, text);
+        return say(
+            out,
+            at,
+            b"~ is too late in @: its day number would be above 2147483647.\n",
+            &[],
+            name,
+            text,
+        );
     }
-    say(out, at, &TOO_EARLY, &NO_NUMBERS, name, text)
+    say(
+        out,
+        at,
+        b"~ is too early in @: its day number would be below -2147483648.\n",
+        &[],
+        name,
+        text,
+    )
 }
 
 // ---- A text that is no date text
@@ -233,16 +267,12 @@ fn fault_words(number: u32, in_year: bool) -> &'static [u8]
     }
 }
 
-const COULD_STAND: [u8; 20] = *b"; there could stand ";
-
-const STOP: [u8; 2] = *b".\n";
-
 // The full stop, and the picture.
 fn put_stop(out: &mut [u8], at: usize, text: &[u8], place: usize) -> usize
     requires { (at + 1038 ≤ length out.old) × ((length text.now ≤ 512) × (place ≤ 513)) }
     ensures { Text (Is (bytes ".\n" ++ picture text.now place)) 1038 out.old at out.new result }
 {
-    let next = fill::put_text(out, at, &STOP);
+    let next = fill::put_text(out, at, b".\n");
     picture::put_picture(out, next, text, place)
 }
 
@@ -261,7 +291,7 @@ fn put_end(
     if number == 3 {
         return put_stop(out, at, text, place);
     }
-    let first = fill::put_text(out, at, &COULD_STAND);
+    let first = fill::put_text(out, at, b"; there could stand ");
     let second = choices::put_choices(out, first, expected);
     put_stop(out, second, text, place)
 }
@@ -318,23 +348,29 @@ pub fn put_reason(out: &mut [u8], at: usize, name: &[u8], text: &[u8], reason: R
 
 // ---- Without a reason
 
-const UNKNOWN: [u8; 148] =
-    *b"\"@\" is not the name of a calendar, neither of a built-in one nor of one in the catalogue. A name is all that stands before the first tab of a line.\n";
-
 // A name that no calendar has.
 pub fn put_unknown(out: &mut [u8], at: usize, name: &[u8]) -> usize
     requires { Room out.old at name.now [] }
     ensures { Text (Filled name.now [] unknown_pattern []) longest_paragraph out.old at out.new result }
 {
-    say(out, at, &UNKNOWN, &NO_NUMBERS, name, &NO_TEXT)
+    say(
+        out,
+        at,
+        b"\"@\" is not the name of a calendar, neither of a built-in one nor of one in the catalogue. A name is all that stands before the first tab of a line.\n",
+        &[],
+        name,
+        &[],
+    )
 }
-
-const LONG: [u8; 51] = *b"The line has more than 512 bytes, and is not read.\n";
 
 // A line that is too long.
 pub fn put_long(out: &mut [u8], at: usize) -> usize
     requires { at + longest_paragraph ≤ length out.old }
     ensures { Text (Is long_line) longest_paragraph out.old at out.new result }
 {
-    fill::put_text(out, at, &LONG)
+    fill::put_text(
+        out,
+        at,
+        b"The line has more than 512 bytes, and is not read.\n",
+    )
 }
