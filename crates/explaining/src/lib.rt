@@ -61,21 +61,16 @@ fn put_paragraph(names: &Names, line: &[u8], apart: &mut [u8; LONGEST_PARAGRAPH]
     let name = &line[..parts.name_end];
     let text = &line[parts.text_from..];
     match catalogue::named(names, name) {
-        Err(why) => put_unnamed(apart, name, text, why.number),
         Ok(calendar) => {
             let reason = reasons::explain(calendar, text);
             sentences::put_reason(apart, 0, name, text, reason)
         }
+        Err(why) => {
+            if why.number == 19 {
+                sentences::put_unknown(apart, 0, name)
+            } else {
+                sentences::put_reason(apart, 0, name, text, Reason::MadeUp)
+            }
+        }
     }
-}
-
-// The paragraph of a name that is refused with this number.
-fn put_unnamed(apart: &mut [u8; LONGEST_PARAGRAPH], name: &[u8], text: &[u8], number: u32) -> usize
-    requires { (length name.now ≤ 512) × (length text.now ≤ 512) }
-    ensures { Text (Unnamed name.now text.now number) longest_paragraph apart.old 0 apart.new result }
-{
-    if number == 19 {
-        return sentences::put_unknown(apart, 0, name);
-    }
-    sentences::put_reason(apart, 0, name, text, Reason::MadeUp)
 }
