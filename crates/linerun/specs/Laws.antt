@@ -46,6 +46,10 @@ long_line = replicate (suc longest_read) 0
 pub long_is : longest_read < length long_line
 long_is = omega (arith, length-replicate {A = ℕ} (suc longest_read) 0)
 
+pub of_a_line : {Out : List ℕ → List ℕ → Type 0} {l : List ℕ} {n : ℕ} {t : List ℕ} → HeldOut Out l n t → (p : List ℕ) × Out p t
+of_a_line {l = l} {n} (HeldOut.short h x) = (take n l, x)
+of_a_line (HeldOut.long h x) = (long_line, x long_line long_is)
+
 -- ---- for a program: its answer to a line, by what it wrote; and its turn
 
 module _ {Out : List ℕ → List ℕ → Type 0} where
@@ -54,3 +58,7 @@ module _ {Out : List ℕ → List ℕ → Type 0} where
 
   pub goes : {unread unwritten : List ℕ} {b l o : List ℕ} {s : State} {e : Event} {l' o' : List ℕ} {q r : Turn} {s' : State} → NextTurn b l s e l' q → q ≡ r → Answers Out unread unwritten l' o r o' s' → GoesOn Out unread unwritten b l o s e l' o' s'
   goes {unread} {unwritten} {o = o} {l' = l'} {o'} {s' = s'} x f y = GoesOn.goes_on x (subst (λ (v : Turn). Answers Out unread unwritten l' o v o' s') (sym f) y)
+
+  -- where no answer is longer than the output, none is refused
+  pub answer_fits : {l o : List ℕ} {n : ℕ} {o' : List ℕ} {f : Refusal} → ((p t : List ℕ) → Out p t → length t ≤ length o) → Writes (HeldOut Out l n) o 0 o' (Err f) → ⊥
+  answer_fits fits (Writes.writes {t} x (Puts.short h)) = let (p, y) = of_a_line x in omega (arith, fits p t y)

@@ -65,6 +65,10 @@ pub next_grows : {b : List ℕ} {s t : BlockState} {N : Naming} → NextLine N b
 next_grows (NextLine.rest f) h = rest_grows f h
 next_grows (NextLine.line f g m) h = line_grows f
 
+next_inside : {b : List ℕ} {s t : BlockState} {N : Naming} → NextLine N b s t → s.used + longest_line ≤ length s.out → (length t.out ≡ length s.out) × (t.used ≤ length s.out)
+next_inside (NextLine.rest f) h = (refl, omega arith)
+next_inside {s = s} (NextLine.line {t = t} f g m) h = (length_put s.out s.used t (omega arith), omega arith)
+
 -- ---- line after line: what is still to come leads from where the block was begun
 
 pub record Reaches (N : Naming) (b : List ℕ) (s t : BlockState) : Type 0 where
@@ -76,6 +80,12 @@ reaches_start b s = record { onward = λ e r. r; long = refl }
 
 pub reaches_on : {b : List ℕ} {s t v : BlockState} {N : Naming} → Reaches N b s t → t.at < length b → t.used + longest_line ≤ length t.out → NextLine N b t v → length v.out ≡ length t.out → Reaches N b s v
 reaches_on g h k w m = record { onward = λ e r. g.onward e (Lists.goes_on h k w r); long = m ∙ g.long }
+
+-- where the output has room to begin with, it is not overrun, and the block is read on
+pub lists_inside : {b : List ℕ} {N : Naming} {s e : BlockState} → Lists N b s e → s.used ≤ length s.out → e.used ≤ length e.out
+lists_inside (Lists.block_ends h) k = k
+lists_inside (Lists.out_of_room h) k = k
+lists_inside (Lists.goes_on h r w l) k = let q = next_inside w r in lists_inside l (omega (arith, q.0, q.1))
 
 pub lists_on : {b : List ℕ} {N : Naming} {s e : BlockState} → Lists N b s e → s.at ≤ e.at
 lists_on (Lists.block_ends h) = omega arith
@@ -91,6 +101,10 @@ lists_grow (Lists.goes_on h r w l) i k = omega (arith, next_grows w h, lists_on 
 
 pub listed_as : {l : List ℕ} {a : Result Date Refusal} {b : List ℕ} {at : ℕ} {b' : List ℕ} {r : Result ℕ Refusal} {N : Naming} → LineAnswer N l a → Writes (LineOut (line_of a)) b at b' r → Writes (Listed N l) b at b' r
 listed_as q (Writes.writes t p) = Writes.writes (listed q t.is) p
+
+-- what was written lies in the buffer
+pub wrote_inside : {P : List ℕ → Type 0} {b : List ℕ} {at : ℕ} {b' : List ℕ} {i : ℕ} → Writes P b at b' (Ok i) → i ≤ length b'
+wrote_inside {b = b} {at} (Writes.writes {t} x (Puts.done h)) = omega (arith, length_put b at t h)
 
 -- where whatever N says of a name M says too, lines listed by N are listed by M
 module _ {N M : Naming} (also : (s : List ℕ) (a : Result Calendar Refusal) → N s a → M s a) where
