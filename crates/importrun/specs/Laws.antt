@@ -1,10 +1,11 @@
 -- From what the calls below say to the promises.
 -- Assumes nothing.
-use Rattle.std.specs.Prelude.{ℕ, ◌+◌, ◌-◌, ◌≤◌, ◌<◌, min, ◌≡◌, Bool, true, false, List, [], length, take, drop, get_or, set}
-use Rattle.std.proofs.Common.{sym, ◌∙◌, ap, ap₂, subst, zero-add, arith, length-take, length-drop, drop_of_length-le, length-take-le, get_or-append-add, get_or-drop, get_or-take}
-use Rattle.std.proofs.Math.Nat.{min-eq_left, min-eq_right}
+use Rattle.std.specs.Prelude.{ℕ, ◌+◌, ◌-◌, ◌≤◌, ◌<◌, min, ◌≡◌, Bool, true, false, List, [], ◌++◌, length, take, drop}
+use Rattle.std.proofs.Common.{sym, ◌∙◌, ap, ap₂, subst, arith, length-take, length-drop, drop_of_length-le, length-take-le}
+use Rattle.std.proofs.lemmas.List.{drop-take}
+use lib.Seq.{paste}
 use Rattle.writer.specs.Promise.{put}
-use Rattle.writer.proofs.PutLaws.{put_none, Copying, copying_on, copying_done}
+use Rattle.writer.proofs.PutLaws.{put_none}
 use Rattle.filter.specs.declared.Phase.TheVariants.{Reading, Midway, Closing}
 use Rattle.filter.specs.declared.Event.{Event}
 use Rattle.filter.specs.declared.State.{State}
@@ -42,25 +43,11 @@ module _ (b : List ℕ) (at end : ℕ) (h : end ≤ length b) (k : at ≤ end) w
   pub part_long : length (part b at end) ≡ end - at
   part_long = length-drop at (take end b) ∙ ap (λ (n : ℕ). n - at) (length-take-le end b h)
 
-  part_byte : (i : ℕ) → i < end - at → get_or (part b at end) i 0 ≡ get_or b (at + i) 0
-  part_byte i l = get_or-drop at (take end b) i 0 ∙ get_or-take end b (at + i) 0 (omega arith)
-
-  -- a byte that is still to be moved stands where it stood
-  stands_still : {x : List ℕ} {i : ℕ} → Copying b 0 (part b at end) x i → get_or x (at + i) 0 ≡ get_or b (at + i) 0
-  stands_still {x} {i} c =
-      let t = take i (part b at end) in
-      let n : length t ≡ i = length-take-le i (part b at end) c.inside in
-      let e : at + i ≡ length t + at = omega (arith, n) in
-      ap₂ (λ (y : List ℕ) (j : ℕ). get_or y j 0) c.is e ∙ get_or-append-add t (drop (0 + length t) b) at 0 ∙ get_or-drop (0 + length t) b at 0 ∙ ap (λ (j : ℕ). get_or b j 0) (omega (arith, n))
-
-  pub keeping_on : {x : List ℕ} {i : ℕ} → Copying b 0 (part b at end) x i → i < end - at → Copying b 0 (part b at end) (set x i (get_or x (at + i) 0)) (i + 1)
-  keeping_on {x} {i} c l =
-      subst (λ (y : List ℕ). Copying b 0 (part b at end) y (i + 1)) (ap₂ (set x) (zero-add i) (part_byte i l ∙ sym (stands_still c))) (copying_on (omega (arith, part_long)) c (omega (arith, part_long)))
-
-  pub keeping_done : {x : List ℕ} {i : ℕ} → Copying b 0 (part b at end) x i → end - at ≤ i → Keeps b at end x (end - at)
-  keeping_done {x} c l =
-      let p = copying_done (omega (arith, part_long)) c (omega (arith, part_long)) in
-      subst (λ (y : List ℕ). Keeps b at end y (end - at)) (sym p.is) (subst (λ (n : ℕ). Keeps b at end (put b 0 (part b at end)) n) part_long Keeps.keeps)
+  pub keeping : {x : List ℕ} → x ≡ paste b 0 (drop at b) (end - at) → Keeps b at end x (end - at)
+  keeping e =
+      let p : take (end - at) (drop at b) ≡ part b at end = sym (drop-take at (end - at) b) ∙ ap (λ (n : ℕ). drop at (take n b)) (omega arith) in
+      let q : paste b 0 (drop at b) (end - at) ≡ put b 0 (part b at end) = ap₂ (λ (t : List ℕ) (n : ℕ). take 0 b ++ (t ++ drop (0 + n) b)) p (sym part_long) in
+      subst (λ (y : List ℕ). Keeps b at end y (end - at)) (sym (e ∙ q)) (subst (λ (n : ℕ). Keeps b at end (put b 0 (part b at end)) n) part_long Keeps.keeps)
 
 -- ---- a turn
 

@@ -68,11 +68,8 @@ fn keep(block: &mut [u8], at: usize, end: usize) -> usize
     if end < at {
         return 0;
     }
-    let size = end - at;
-    for i in 0..size {
-        block[i] = block[at + i];
-    }
-    size
+    block.copy_within(at..end, 0);
+    end - at
 }
 
 // Records of the block, from an offset on, up to another.
