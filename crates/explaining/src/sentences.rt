@@ -97,6 +97,12 @@ fn put_made_up(out: &mut [u8], at: usize, name: &[u8], text: &[u8]) -> usize
 
 // ---- A date that the calendar does not have
 
+const NO_DAYS: &[u8] = b"~ is no date in @: the month #-# has no days there.\n";
+
+const ONE_RUN: &[u8] = b"~ is no date in @: the month #-# has the days # to # there.\n";
+
+const TWO_RUNS: &[u8] = b"~ is no date in @: the month #-# has the days # to # and # to # there.\n";
+
 fn put_missing(
     out: &mut [u8],
     at: usize,
@@ -115,25 +121,11 @@ fn put_missing(
     match days {
         Runs::Nothing => {
             let numbers = [y, m];
-            say(
-                out,
-                at,
-                b"~ is no date in @: the month #-# has no days there.\n",
-                &numbers,
-                name,
-                text,
-            )
+            say(out, at, NO_DAYS, &numbers, name, text)
         }
         Runs::One(a) => {
             let numbers = [y, m, whole::counted(a.first), whole::counted(a.last)];
-            say(
-                out,
-                at,
-                b"~ is no date in @: the month #-# has the days # to # there.\n",
-                &numbers,
-                name,
-                text,
-            )
+            say(out, at, ONE_RUN, &numbers, name, text)
         }
         Runs::Two(a, b) => {
             let numbers = [
@@ -144,14 +136,7 @@ fn put_missing(
                 whole::counted(b.first),
                 whole::counted(b.last),
             ];
-            say(
-                out,
-                at,
-                b"~ is no date in @: the month #-# has the days # to # and # to # there.\n",
-                &numbers,
-                name,
-                text,
-            )
+            say(out, at, TWO_RUNS, &numbers, name, text)
         }
     }
 }
