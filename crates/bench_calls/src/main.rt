@@ -3,7 +3,7 @@
 // `p` parse_date, `s` succ), the calendar (`J`, `G`, or `R` for the one of 1582), the number of rounds in five digits, and a line end.
 #![tactic(auto)]
 
-ghost use Rattle.std.specs.Prelude.{◌≡◌, length};
+ghost use Rattle.std.specs.Prelude.{◌<◌, ◌≡◌, length};
 
 use benchsum::{added, calendar_of, fields, plus};
 use calendar::{Calendar, Date, Style};
@@ -39,7 +39,9 @@ fn unprepared(calendar: Calendar) -> Prepared {
 }
 
 // The program that runs the crate has the same generator.
-fn next(x: u32) -> u32 {
+fn next(x: u32) -> u32
+    ensures { result < 2147483648 }
+{
     ((u64::from(x) * 1_103_515_245 + 12_345) % 2_147_483_648) as u32
 }
 

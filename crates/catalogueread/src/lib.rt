@@ -51,12 +51,14 @@ fn read_next(
     let end = bytesearch::by_eights(block, at, b'\n');
     let n = textlines::add_to_line(line, from.held, &block[at..end]);
     if end < block.len() {
-        let lines = add_held(names, from.lines, line, n)?;
-        return Ok(Progress {
-            at: end + 1,
-            lines,
-            held: 0,
-        });
+        return match add_held(names, from.lines, line, n) {
+            Ok(lines) => Ok(Progress {
+                at: end + 1,
+                lines,
+                held: 0,
+            }),
+            Err(why) => Err(why),
+        };
     }
     Ok(Progress {
         at: end,

@@ -28,7 +28,7 @@ const NAME_BYTES: usize = LINES * SLOT;
 const LINK_COUNT: usize = HEADS + 2 * LINES;
 
 // The memory that is lent.
-#[derive(Drop)]
+#[derive(Clone, Copy)]
 pub struct Names {
     pub slots: [u8; NAME_BYTES],
     pub links: [u32; LINK_COUNT],

@@ -77,7 +77,7 @@ no_row l ns e (r ∷ rows) t =
     let (a, b) = and_yes (is_one (length r.name) ns) _ t in
     rw (ne_eqb (length r.name) l (λ q. subst T e (subst (λ (m : ℕ). T (is_one m ns)) q a))) (no_row l ns e rows b)
 
-in_no_group : (s ns : List ℕ) → T (lengths_in ns table) → NoneOf (length s) ns → among s table ≡ None
+pub in_no_group : (s ns : List ℕ) → T (lengths_in ns table) → NoneOf (length s) ns → among s table ≡ None
 in_no_group s ns t h = sym (same_length s None table) ∙ ap (λ (rows : List NameRow). among s rows) (no_row (length s) ns (none_of (length s) ns h) table t)
 
 -- ---- Other names than those of some rows

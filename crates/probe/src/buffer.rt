@@ -4,7 +4,7 @@ use crate::{put, query, reply};
 use calendar::Date;
 use refusals::Refusal;
 
-fn written(reply: Reply, answer: Result<usize, Refusal>) -> Reply {
+fn written(reply: &mut Reply, answer: Result<usize, Refusal>) {
     match answer {
         Ok(n) => reply::place(reply, n),
         Err(why) => reply::refusal(reply, why),
@@ -12,22 +12,23 @@ fn written(reply: Reply, answer: Result<usize, Refusal>) -> Reply {
 }
 
 // The year of a record from the place of its ordinal on, and its day from the place of its month on.
-fn put_both(date: Date, buf: &mut [u8]) -> Reply {
+fn put_both(r: &mut Reply, date: Date, buf: &mut [u8]) {
     let year = whole::widened(date.year);
-    let a = written(
-        reply::none(),
-        writer::put_whole(buf, date.ordinal as usize, year),
-    );
-    written(a, writer::put_number(buf, date.month as usize, date.day))
+    written(r, writer::put_whole(buf, date.ordinal as usize, year));
+    written(r, writer::put_number(buf, date.month as usize, date.day));
 }
 
 fn fill(what: u8, date: Date, buf: &mut [u8]) -> Reply {
-    let r = reply::none();
+    let mut r = reply::none();
     match what {
-        b'd' => written(r, dateparse::write_date(date, buf)),
-        b'y' => written(r, writer::write_ymd(buf, date.year, date.month, date.day)),
-        _ => put_both(date, buf),
+        b'd' => written(&mut r, dateparse::write_date(date, buf)),
+        b'y' => written(
+            &mut r,
+            writer::write_ymd(buf, date.year, date.month, date.day),
+        ),
+        _ => put_both(&mut r, date, buf),
     }
+    r
 }
 
 // Lends so many bytes of the output.
@@ -68,5 +69,5 @@ pub fn answer(line: &[u8], out: &mut [u8], at: usize) -> usize {
     let end = put::word(out, at, query::tail(line, from));
     let n = query::number_at(line, size);
     let r = lend_for(out, at, n, query::byte_at(line, 1), date);
-    put::reply(out, end, r)
+    put::reply(out, end, &r)
 }

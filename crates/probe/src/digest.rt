@@ -89,10 +89,10 @@ fn all_days(calendar: Calendar, jdn: i32, step: u32, count: u32) -> DaySum {
     s
 }
 
-pub fn days(calendar: Calendar, jdn: i32, step: u32, count: u32) -> Reply {
+pub fn days(r: &mut Reply, calendar: Calendar, jdn: i32, step: u32, count: u32) {
     let s = all_days(calendar, jdn, step, count);
-    let a = reply::digest(reply::none(), s.hash);
-    reply::count(a, s.given)
+    reply::digest(r, s.hash);
+    reply::count(r, s.given);
 }
 
 // ---- A year by its months and days
@@ -180,12 +180,15 @@ fn steps(mut t: Walking, count: u32) -> Walking {
 }
 
 fn trail(t: Walking) -> Reply {
-    let a = reply::count(reply::none(), t.given);
-    let b = reply::digest(a, t.hash);
+    let mut r = reply::none();
+    reply::count(&mut r, t.given);
+    reply::digest(&mut r, t.hash);
     if t.given == 0 {
-        return reply::letter(b, b'-');
+        reply::letter(&mut r, b'-');
+    } else {
+        reply::date(&mut r, t.last);
     }
-    reply::date(b, t.last)
+    r
 }
 
 // The days of a walk, or the walker after them and its next step.

@@ -17,7 +17,7 @@ use reply::Reply;
 
 // ---- Queries about a calendar
 
-fn ref_day(r: Reply, answer: Result<Option<i32>, Refusal>) -> Reply {
+fn ref_day(r: &mut Reply, answer: Result<Option<i32>, Refusal>) {
     match answer {
         Ok(Some(day)) => reply::number(r, whole::widened(day)),
         Ok(None) => reply::letter(r, b'-'),
@@ -25,7 +25,7 @@ fn ref_day(r: Reply, answer: Result<Option<i32>, Refusal>) -> Reply {
     }
 }
 
-fn ref_date(r: Reply, answer: Result<Option<Date>, Refusal>) -> Reply {
+fn ref_date(r: &mut Reply, answer: Result<Option<Date>, Refusal>) {
     match answer {
         Ok(Some(date)) => reply::date(r, date),
         Ok(None) => reply::letter(r, b'-'),
@@ -33,17 +33,19 @@ fn ref_date(r: Reply, answer: Result<Option<Date>, Refusal>) -> Reply {
     }
 }
 
-fn reformation(calendar: Calendar) -> Reply {
-    let a = reply::told(reply::none(), calendar.is_reforming());
-    let b = reply::told(a, calendar.is_proleptic());
-    let c = ref_day(b, calendar.reformation());
-    let d = ref_date(c, calendar.last_julian_date());
-    ref_date(d, calendar.first_gregorian_date())
+fn reformation(r: &mut Reply, calendar: Calendar) {
+    reply::told(r, calendar.is_reforming());
+    reply::told(r, calendar.is_proleptic());
+    ref_day(r, calendar.reformation());
+    ref_date(r, calendar.last_julian_date());
+    ref_date(r, calendar.first_gregorian_date());
 }
 
 fn name(answer: Result<Calendar, Refusal>) -> Reply {
     answer.map_or_else(reply::refused, |calendar| {
-        reply::calendar(reply::none(), calendar)
+        let mut r = reply::none();
+        reply::calendar(&mut r, calendar);
+        r
     })
 }
 
@@ -51,24 +53,29 @@ fn name(answer: Result<Calendar, Refusal>) -> Reply {
 
 // What a record that may be made up tells of itself.
 fn genuine(date: Date) -> Reply {
-    let a = reply::count(reply::none(), reply::bit(date.is_genuine()));
-    let b = reply::counted(a, date.weekday());
-    let c = reply::told(b, date.is_julian());
-    reply::told(c, date.is_gregorian())
+    let mut r = reply::none();
+    reply::count(&mut r, reply::bit(date.is_genuine()));
+    reply::counted(&mut r, date.weekday());
+    reply::told(&mut r, date.is_julian());
+    reply::told(&mut r, date.is_gregorian());
+    r
 }
 
 fn zero(date: Date) -> Reply {
-    let a = reply::counted(reply::none(), date.ordinal0());
-    reply::counted(a, date.day_ordinal0())
+    let mut r = reply::none();
+    reply::counted(&mut r, date.ordinal0());
+    reply::counted(&mut r, date.day_ordinal0());
+    r
 }
 
 // The first n bytes of a text, and a tab after them.
 fn text_reply(text: [u8; 14], n: usize) -> Reply {
     let mut r = reply::none();
     for b in text.iter().take(n) {
-        r = reply::byte(r, *b);
+        reply::byte(&mut r, *b);
     }
-    reply::byte(r, b'\t')
+    reply::byte(&mut r, b'\t');
+    r
 }
 
 fn written(date: Date) -> Reply {
@@ -79,23 +86,29 @@ fn written(date: Date) -> Reply {
 
 // ---- Queries about a month
 
-fn month(calendar: Calendar, year: i32, month: u32) -> Reply {
-    let a = reply::counted(reply::none(), months::len(calendar, year, month));
-    let b = reply::counted(a, months::first_day(calendar, year, month));
-    reply::counted(b, months::last_day(calendar, year, month))
+fn month(r: &mut Reply, calendar: Calendar, year: i32, month: u32) {
+    reply::counted(r, months::len(calendar, year, month));
+    reply::counted(r, months::first_day(calendar, year, month));
+    reply::counted(r, months::last_day(calendar, year, month));
 }
 
 // ---- Queries about seconds
 
 fn time(answer: Result<(i32, u32), Refusal>) -> Reply {
     answer.map_or_else(reply::refused, |(jdn, seconds)| {
-        reply::count(reply::number(reply::none(), whole::widened(jdn)), seconds)
+        let mut r = reply::none();
+        reply::number(&mut r, whole::widened(jdn));
+        reply::count(&mut r, seconds);
+        r
     })
 }
 
 fn unix(answer: Result<(Date, u32), Refusal>) -> Reply {
     answer.map_or_else(reply::refused, |(date, seconds)| {
-        reply::count(reply::date(reply::none(), date), seconds)
+        let mut r = reply::none();
+        reply::date(&mut r, date);
+        reply::count(&mut r, seconds);
+        r
     })
 }
 
@@ -130,38 +143,40 @@ fn of_date(line: &[u8], date: Date, at: usize) -> Reply {
         b'z' => zero(date),
         b'g' => genuine(date),
         b'c' => to_calendar(date, line, at),
-        _ => reply::date(reply::none(), date),
+        _ => reply::dated(Ok(date)),
     }
 }
 
-fn about_months(letter: u8, calendar: Calendar, q: Numbers) -> Reply {
-    let r = reply::none();
+fn about_months(r: &mut Reply, letter: u8, calendar: Calendar, q: Numbers) {
     match letter {
-        b'm' => month(calendar, q.first, q.second),
+        b'm' => month(r, calendar, q.first, q.second),
         b'h' => reply::told(r, months::contains(calendar, q.first, q.second, q.third)),
         b'i' => reply::counted(r, months::day_ordinal(calendar, q.first, q.second, q.third)),
         b'k' => reply::counted(r, months::nth_day(calendar, q.first, q.second, q.third)),
-        _ => reply::dated(months::nth_date(calendar, q.first, q.second, q.third)),
+        _ => reply::dated_on(r, months::nth_date(calendar, q.first, q.second, q.third)),
     }
 }
 
-fn with_y(second: u8, calendar: Calendar, q: Numbers) -> Reply {
+fn with_y(r: &mut Reply, second: u8, calendar: Calendar, q: Numbers) {
     if second == b'e' {
-        return reply::digest(reply::none(), digest::year(calendar, q.first));
+        reply::digest(r, digest::year(calendar, q.first));
+    } else {
+        reply::dated_on(r, calendar.at_ymd(q.first, q.second, q.third));
     }
-    reply::dated(calendar.at_ymd(q.first, q.second, q.third))
 }
 
 fn about_years(letter: u8, second: u8, calendar: Calendar, q: Numbers) -> Reply {
+    let mut r = reply::none();
     match letter {
-        b'y' => with_y(second, calendar, q),
-        b'o' => reply::dated(calendar.at_ordinal_date(q.first, q.second)),
-        b'l' => reply::counted(reply::none(), months::year_length(calendar, q.first)),
-        b'd' => digest::days(calendar, q.first, q.second, q.third),
-        b'p' => reply::digest(reply::none(), digest::places(calendar, q.first)),
-        b'r' => reformation(calendar),
-        _ => about_months(letter, calendar, q),
+        b'y' => with_y(&mut r, second, calendar, q),
+        b'o' => reply::dated_on(&mut r, calendar.at_ordinal_date(q.first, q.second)),
+        b'l' => reply::counted(&mut r, months::year_length(calendar, q.first)),
+        b'd' => digest::days(&mut r, calendar, q.first, q.second, q.third),
+        b'p' => reply::digest(&mut r, digest::places(calendar, q.first)),
+        b'r' => reformation(&mut r, calendar),
+        _ => about_months(&mut r, letter, calendar, q),
     }
+    r
 }
 
 // Queries about a date begin with one of these letters, but for `parse` and `places`.
@@ -199,10 +214,13 @@ fn of_calendar(line: &[u8], from: usize) -> Reply {
 
 // Queries about a day number alone: `wd` and `sec`.
 fn of_day(letter: u8, jdn: i32) -> Reply {
+    let mut r = reply::none();
     if letter == b'w' {
-        return reply::count(reply::none(), weekday::for_jdn(jdn));
+        reply::count(&mut r, weekday::for_jdn(jdn));
+    } else {
+        reply::number(&mut r, unixtime::jdn2unix(jdn));
     }
-    reply::number(reply::none(), unixtime::jdn2unix(jdn))
+    r
 }
 
 fn is_of_day(letter: u8, second: u8) -> bool {
@@ -254,7 +272,7 @@ fn answer(line: &[u8], out: &mut [u8], at: usize) -> usize {
     match query::byte_at(line, 0) {
         b'#' => put::word(out, at, line),
         b'b' => buffer::answer(line, out, at),
-        _ => put::reply(out, at, answer_to(line)),
+        _ => put::reply(out, at, &answer_to(line)),
     }
 }
 

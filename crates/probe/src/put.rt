@@ -45,7 +45,7 @@ fn field(out: &mut [u8], at: usize, field: Field) -> usize {
     }
 }
 
-pub fn reply(out: &mut [u8], at: usize, r: Reply) -> usize {
+pub fn reply(out: &mut [u8], at: usize, r: &Reply) -> usize {
     let mut end = at;
     for f in r.fields.iter().take(r.n) {
         end = field(out, end, *f);

@@ -9,42 +9,59 @@ use refusals::Refusal;
 
 fn number(answer: Result<(u32, usize), Refusal>) -> Reply {
     answer.map_or_else(reply::refused, |(n, next)| {
-        reply::place(reply::count(reply::none(), n), next)
+        let mut r = reply::none();
+        reply::count(&mut r, n);
+        reply::place(&mut r, next);
+        r
     })
 }
 
 fn signed(answer: Result<(i32, usize), Refusal>) -> Reply {
     answer.map_or_else(reply::refused, |(x, next)| {
-        reply::place(reply::number(reply::none(), whole::widened(x)), next)
+        let mut r = reply::none();
+        reply::number(&mut r, whole::widened(x));
+        reply::place(&mut r, next);
+        r
     })
 }
 
 fn dash(answer: Result<usize, Refusal>) -> Reply {
-    answer.map_or_else(reply::refused, |next| reply::place(reply::none(), next))
+    answer.map_or_else(reply::refused, |next| {
+        let mut r = reply::none();
+        reply::place(&mut r, next);
+        r
+    })
 }
 
 fn end(answer: Result<(), Refusal>) -> Reply {
-    answer.map_or_else(reply::refused, |()| reply::letter(reply::none(), b'.'))
+    answer.map_or_else(reply::refused, |()| {
+        let mut r = reply::none();
+        reply::letter(&mut r, b'.');
+        r
+    })
 }
 
 // ---- The same by a reader that stands at the place, and where it stands after the read
 
 fn number_by(text: &[u8], at: usize) -> Reply {
     let mut reader = Reader { src: text, at };
-    let told = number(reader.number());
-    reply::place(told, reader.at)
+    let mut r = number(reader.number());
+    reply::place(&mut r, reader.at);
+    r
 }
 
 fn signed_by(text: &[u8], at: usize) -> Reply {
     let mut reader = Reader { src: text, at };
-    let told = signed(reader.signed());
-    reply::place(told, reader.at)
+    let mut r = signed(reader.signed());
+    reply::place(&mut r, reader.at);
+    r
 }
 
 fn dash_by(text: &[u8], at: usize) -> Reply {
     let mut reader = Reader { src: text, at };
-    let told = dash(reader.dash());
-    reply::place(told, reader.at)
+    let mut r = dash(reader.dash());
+    reply::place(&mut r, reader.at);
+    r
 }
 
 fn end_by(text: &[u8], at: usize) -> Result<(), Refusal> {
@@ -81,14 +98,16 @@ pub fn at(line: &[u8], from: usize) -> Reply {
 // ---- A whole text
 
 fn said(text: Text) -> Reply {
+    let mut r = reply::none();
     match text {
         Text::Ordinal {
             year,
             ordinal,
             place,
         } => {
-            let a = reply::number(reply::none(), whole::widened(year));
-            reply::place(reply::count(a, ordinal), place)
+            reply::number(&mut r, whole::widened(year));
+            reply::count(&mut r, ordinal);
+            reply::place(&mut r, place);
         }
         Text::Ymd {
             year,
@@ -96,11 +115,13 @@ fn said(text: Text) -> Reply {
             day,
             place,
         } => {
-            let a = reply::number(reply::none(), whole::widened(year));
-            let b = reply::count(reply::count(a, month), day);
-            reply::place(b, place)
+            reply::number(&mut r, whole::widened(year));
+            reply::count(&mut r, month);
+            reply::count(&mut r, day);
+            reply::place(&mut r, place);
         }
     }
+    r
 }
 
 pub fn whole_text(line: &[u8], from: usize) -> Reply {

@@ -65,19 +65,24 @@ pub fn walker_of(way: u32, date: Date) -> Result<Walker, Refusal> {
 // ---- Answers
 
 // What a walker is: its number, the calendar and the numbers of its record, and whether it is ended.
-fn held(reply: Reply, w: Walker) -> Reply {
-    let date = w.date;
-    let a = reply::calendar(reply::count(reply, way_of(w.kind)), date.calendar);
-    let b = reply::letter(reply::fields(a, date), reply::style_letter(date.style));
-    reply::count(b, reply::bit(w.ended))
+fn held(r: &mut Reply, w: Walker) {
+    reply::count(r, way_of(w.kind));
+    reply::calendar(r, w.date.calendar);
+    reply::fields(r, w.date);
+    reply::letter(r, reply::style_letter(w.date.style));
+    reply::count(r, reply::bit(w.ended));
 }
 
-fn taken(reply: Reply, m: Moved) -> Reply {
-    held(reply::dated_on(reply, m.answer), m.walker)
+fn taken(r: &mut Reply, m: Moved) {
+    reply::dated_on(r, m.answer);
+    held(r, m.walker);
 }
 
 // A walker, its next step by value, and the same step lent.
 pub fn view(w: Walker) -> Reply {
-    let a = taken(held(reply::none(), w), walker::stepped(w));
-    taken(a, lent(w))
+    let mut r = reply::none();
+    held(&mut r, w);
+    taken(&mut r, walker::stepped(w));
+    taken(&mut r, lent(w));
+    r
 }

@@ -21,7 +21,10 @@ pub fn unix2jdn(t: i64) -> Result<(i32, u32), Refusal>
 pub fn at_unix_time(calendar: Calendar, t: i64) -> Result<(Date, u32), Refusal>
     ensures { AtUnixTime calendar t result }
 {
-    switch_of(calendar)?;
+    match switch_of(calendar) {
+        Err(_) => return Err(refusal_of(16, 0)),
+        Ok(_) => {}
+    }
     let (jdn, seconds) = unix2jdn(t)?;
     let date = calendar.at_jdn(jdn)?;
     Ok((date, seconds))
